@@ -1,0 +1,4 @@
+pub mod Aps
+pub mod Words
+pub mod Floats
+pub mod Floor

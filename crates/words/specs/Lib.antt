@@ -1,0 +1,3 @@
+pub mod Wrap
+pub mod Num
+pub mod Laws
