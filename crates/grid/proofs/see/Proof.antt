@@ -1,0 +1,60 @@
+use mathlib.Core.Path.{_≡_, refl, sym, ap, ap₂, _∙_, subst}
+use Prim.Native.Nat.{ℕ, zero, suc, _+_, _-_, _*_, _/_, _%_, _^_, _≤_, _<_}
+use native.Mathlib.Omega.{arith}
+use native.Mathlib.Numerals.{add-one}
+use native.Mathlib.Nat.{mod-lt, mul-le-mul, div-lt-iff-lt-mul}
+use mathlib.Core.Bool.{Bool, true, false, _&&_, _||_, cond}
+use mathlib.Core.List.{List, [], _∷_, _++_}
+use mathlib.Core.Logic.{⊎-elim}
+use lib.Dec.{T, ltb, leb, eqb}
+use lib.IntN.{ℤ, pos, negsuc, natAbs, _+ℤ_, _-ℤ_, subℕ}
+use lib.Signed.{ltZ, leZ, mag, nonNeg}
+use lib.ListN.{length, set, getD, drop, length-set}
+use mir.Syntax.{w32, w64, w16}
+use mir.Val.{SFits, Fits, ofZ, toZ}
+use borrow.Author.Tests.{lt-ltb, le-ltb, eq-eqb, ne-eqb, ltb-true, ltb-false, eqb-true, eqb-false}
+use Rattle.grid.specs.Grid.{digits, index-lt, square-most, cube-most, in-all, out-x, out-y, out-z}
+use Rattle.grid.specs.Cube.{Cube, cellIndex, inside, putAt, seeAt}
+use borrow.Author.Needs.{needs}
+use Rattle.grid.proofs.see.Statement.{statement}
+use Rattle.grid.proofs.see.Tie as tie
+use Rattle.grid.proofs.see.Reads as reads
+use Rattle.grid.proofs.see.Lts as lts
+use Rattle.grid.proofs.cell_index.Reads as cell-index-reads
+
+returns : tie.Need-returns
+unfolding seeAt
+returns c = let a = c .before .before .args in rw (out-x (a .size) (a .x) (a .y) (a .z) (c .if1 .taken))
+
+returns-2 : tie.Need-returns-2
+unfolding seeAt
+returns-2 c = let a = c .before .before .before .args in rw (out-y (a .size) (a .x) (a .y) (a .z) (c .before .if1 .left) (c .if2 .taken))
+
+returns-3 : tie.Need-returns-3
+unfolding seeAt
+returns-3 c = let a = c .before .before .before .before .args in rw (out-z (a .size) (a .x) (a .y) (a .z) (c .before .before .if1 .left) (c .before .if2 .left) (c .if3 .taken))
+
+cell-index-requires : tie.Need-cell-index-requires
+cell-index-requires c κs = search needs
+
+mul-result : tie.Need-mul-result
+mul-result c = let a = c .before .before .before .before .before .args in let l = index-lt (a .size) (a .x) (a .y) (a .z) (c .before .before .before .if1 .left) (c .before .before .if2 .left) (c .before .if3 .left) in let e = c .cell-index .ensures in let k = cube-most (a .size) (c .before .before .before .before .before .pre .most) in omega arith
+
+shared-slice-read-result : tie.Need-shared-slice-read-result
+shared-slice-read-result c = let a = c .before .before .before .before .before .before .args in let l = index-lt (a .size) (a .x) (a .y) (a .z) (c .before .before .before .before .if1 .left) (c .before .before .before .if2 .left) (c .before .before .if3 .left) in let e = c .before .cell-index .ensures in let k = c .before .before .before .before .before .before .pre .all in omega arith
+
+returns-4 : tie.Need-returns-4
+unfolding seeAt
+returns-4 c = let a = c .before .before .before .before .before .before .args in rw (in-all (a .size) (a .x) (a .y) (a .z) (c .before .before .before .before .if1 .left) (c .before .before .before .if2 .left) (c .before .before .if3 .left), c .before .cell-index .ensures)
+
+pub see-spec : {M : Type 1} → statement M
+see-spec =
+    tie.close
+    (tie.spec
+    returns
+    returns-2
+    returns-3
+    cell-index-requires
+    mul-result
+    shared-slice-read-result
+    returns-4)

@@ -1,0 +1,3 @@
+pub mod Cube
+pub mod Grid
+pub mod Count
