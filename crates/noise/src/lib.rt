@@ -1,4 +1,4 @@
-// Hash-based value noise and sums of its octaves: the port of `noise.rs`.
+// Hash-based value noise and sums of its octaves: the port of noise.rs. Every f32 operation stands in its order.
 ghost use mathlib.Core.Path.{_≡_};
 ghost use Rattle.noise.specs.Hash.{unit31, hash2₃₂, hash3₃₂};
 ghost use Rattle.noise.specs.Noise.{smooth₃₂, lerp₃₂, square₃₂, noise2d₃₂, layer₃₂, noise3d₃₂, fbm2d₃₂, fbm3d₃₂};
@@ -9,12 +9,14 @@ use words::wrap::low_bits;
 use words::wrap::wrapping_add;
 use words::wrap::wrapping_mul;
 
+// A 31-bit number as a fraction. The Rust divides by 0x7fffffff as f32, which is 2^31; so 1.0 can come out.
 pub fn unit(n: u32) -> f32
     ensures { λ r. ⌜ r ≡ unit31 n ⌝ }
 {
     std::num::nearest_u32_to_f32(n) / 2147483648.0
 }
 
+// 2D integer hash, from 0 to 1.
 pub fn hash2(x: i32, y: i32) -> f32
     ensures { λ r. ⌜ r ≡ hash2₃₂ x y ⌝ }
 {
@@ -27,6 +29,7 @@ pub fn hash2(x: i32, y: i32) -> f32
     unit(low_bits(h))
 }
 
+// 3D integer hash, from 0 to 1. The last multiplier is 2246822519 modulo 2^32.
 pub fn hash3(x: i32, y: i32, z: i32) -> f32
     ensures { λ r. ⌜ r ≡ hash3₃₂ x y z ⌝ }
 {
@@ -42,18 +45,21 @@ pub fn hash3(x: i32, y: i32, z: i32) -> f32
     unit(low_bits(h))
 }
 
+// Cubic Hermite smoothstep.
 pub fn smooth(t: f32) -> f32
     ensures { λ r. ⌜ r ≡ smooth₃₂ t ⌝ }
 {
     t * t * (3.0 - 2.0 * t)
 }
 
+// Linear interpolation.
 pub fn lerp(a: f32, b: f32, t: f32) -> f32
     ensures { λ r. ⌜ r ≡ lerp₃₂ a b t ⌝ }
 {
     a + (b - a) * t
 }
 
+// Between the four corners of the lattice square at (ix, iy). ix + 1 wraps, so that no input is refused.
 fn square2(ix: i32, iy: i32, fx: f32, fy: f32) -> f32
     ensures { λ r. ⌜ r ≡ square₃₂ ix iy fx fy ⌝ }
 {
@@ -66,6 +72,7 @@ fn square2(ix: i32, iy: i32, fx: f32, fy: f32) -> f32
     )
 }
 
+// 2D value noise, smoothed.
 pub fn noise2d(x: f32, y: f32) -> f32
     ensures { λ r. ⌜ r ≡ noise2d₃₂ x y ⌝ }
 {
@@ -78,6 +85,7 @@ pub fn noise2d(x: f32, y: f32) -> f32
     square2(ix, iy, fx, fy)
 }
 
+// Between the four corners at iz of a lattice cube.
 fn layer3(ix: i32, iy: i32, iz: i32, fx: f32, fy: f32) -> f32
     ensures { λ r. ⌜ r ≡ layer₃₂ ix iy iz fx fy ⌝ }
 {
@@ -90,6 +98,7 @@ fn layer3(ix: i32, iy: i32, iz: i32, fx: f32, fy: f32) -> f32
     )
 }
 
+// 3D value noise, smoothed: two layers of four corners.
 pub fn noise3d(x: f32, y: f32, z: f32) -> f32
     ensures { λ r. ⌜ r ≡ noise3d₃₂ x y z ⌝ }
 {
@@ -106,6 +115,7 @@ pub fn noise3d(x: f32, y: f32, z: f32) -> f32
     lerp(layer3(ix, iy, iz, fx, fy), layer3(ix, iy, jz, fx, fy), fz)
 }
 
+// 2D fractional Brownian motion: amplitude halved and frequency doubled for each octave.
 pub fn fbm2d(x: f32, y: f32, octaves: u32) -> f32
     ensures { λ r. ⌜ r ≡ fbm2d₃₂ x y octaves ⌝ }
 {
@@ -125,6 +135,7 @@ pub fn fbm2d(x: f32, y: f32, octaves: u32) -> f32
     val / max
 }
 
+// 3D fractional Brownian motion, likewise.
 pub fn fbm3d(x: f32, y: f32, z: f32, octaves: u32) -> f32
     ensures { λ r. ⌜ r ≡ fbm3d₃₂ x y z octaves ⌝ }
 {

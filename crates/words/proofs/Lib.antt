@@ -1,4 +1,3 @@
-pub mod Aps
 pub mod Words
 pub mod Floats
 pub mod Floor

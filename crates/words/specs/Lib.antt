@@ -1,3 +1,4 @@
 pub mod Wrap
+pub mod Modulo
 pub mod Num
 pub mod Laws

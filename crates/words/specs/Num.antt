@@ -1,43 +1,47 @@
--- What `noise.rs` takes from Rust's f32: floor, absolute value, clamp, max, and the cast to i32. Each is total. Assumes nothing.
-use Prim.Native.Nat.{ℕ, zero, suc, _+_, _*_, _/_, _%_, _^_}
+-- 01, Noise: "floor, absolute value, clamp, max and number conversion are worked out by the program", for every f32.
+-- Assumes nothing.
+use Prim.Native.Nat.{ℕ, suc, _/_, _%_, _^_}
 use mathlib.Core.Bool.{Bool, true, false, cond}
 use lib.Dec.{eqb}
 use lib.IntN.{ℤ, pos, negsuc, negℤ}
-use lib.Ieee.{Float, nan, inf, fin, binary32, up, down, round, lt, le, ofInt, toSigned}
+use lib.Ieee.{Float, nan, inf, fin, binary32, round, lt, le, eq, ofInt, toSigned}
 
--- the f32 nearest to n / d
+-- a constant: the f32 nearest to n / d, ties to even
 unfoldable pub nearest : ℕ → ℕ → Float
 unfolding round
 nearest n d = round binary32 false n d
 
--- the greatest whole number that is no greater than ±a / d
+-- the greatest whole number that is no greater than a / d, or -a / d where the sign is true
 abbrev pub floorQ : Bool → ℕ → ℕ → ℤ
 floorQ false a d = pos (a / d)
 floorQ true a d = negℤ (pos (cond (eqb (a % d) 0) (a / d) (suc (a / d))))
 
--- Rust's `floor`. m * 2 ^ e is whole where e is not negative, and else has a fraction, since m is odd. So -0 stays -0.
+-- "floor". fin s m e is m * 2 ^ e with m odd or zero: whole where e is not negative, and else with a fraction.
+-- So a whole number, -0, an infinity and a NaN stay as they are.
 unfoldable pub floor₃₂ : Float → Float
 floor₃₂ nan = nan
 floor₃₂ (inf s) = inf s
 floor₃₂ (fin s m (pos k)) = fin s m (pos k)
 floor₃₂ (fin s m (negsuc k)) = ofInt binary32 (floorQ s m (2 ^ suc k))
 
--- Rust's `as i32`: toward zero, the ends of the range beyond it, and 0 for a NaN
-unfoldable pub toI32 : Float → ℤ
-toI32 x = toSigned 31 x
-
--- x.floor() as i32
-unfoldable pub floorI : Float → ℤ
-floorI x = toI32 (floor₃₂ x)
-
+-- "absolute value": the sign is dropped, of -0 too
 unfoldable pub abs₃₂ : Float → Float
 abs₃₂ nan = nan
 abs₃₂ (inf s) = inf false
 abs₃₂ (fin s m e) = fin false m e
 
+-- "clamp": lo below lo, hi above hi, else x as it is, so -0 and a NaN too. Where lo is above hi, lo wins.
 unfoldable pub clamp₃₂ : Float → Float → Float → Float
 clamp₃₂ x lo hi = cond (lt x lo) lo (cond (lt hi x) hi x)
 
--- the greater of the two, and b where a is not a number
+-- "max": the greater of the two, a where they are equal, and where one is a NaN the other
 unfoldable pub max₃₂ : Float → Float → Float
-max₃₂ a b = cond (le b a) a b
+max₃₂ a b = cond (le b a) a (cond (eq b b) b a)
+
+-- "To i32: toward zero, ends saturate, NaN gives 0": `toSigned 31`, for 31 bits and a sign
+unfoldable pub toI32 : Float → ℤ
+toI32 x = toSigned 31 x
+
+-- `x.floor() as i32`
+unfoldable pub floorI : Float → ℤ
+floorI x = toI32 (floor₃₂ x)

@@ -1,8 +1,10 @@
-// floor, absolute value, clamp, max and the cast to i32 of Rust's f32, for every f32.
+// floor, absolute value, clamp, max and the conversions between f32 and i32, for every f32: NaN, infinities, both
+// zeros and subnormals too.
 ghost use mathlib.Core.Path.{_≡_};
 ghost use lib.Ieee.{binary32, ofInt};
 ghost use Rattle.words.specs.Num.{floor₃₂, floorI, abs₃₂, clamp₃₂, max₃₂, toI32};
 
+// Toward zero; beyond the ends of i32 the end, and 0 for a NaN. The two tests leave what an i64 surely holds.
 pub fn to_i32(x: f32) -> i32
     ensures { λ r. ⌜ r ≡ toI32 x ⌝ }
 {
@@ -15,16 +17,18 @@ pub fn to_i32(x: f32) -> i32
     } else if x == x {
         2147483647
     } else {
-        0
+        0 // a NaN
     }
 }
 
+// The nearest f32, ties to even.
 pub fn of_i32(n: i32) -> f32
     ensures { λ r. ⌜ r ≡ ofInt binary32 n ⌝ }
 {
     std::num::nearest_i32_to_f32(n)
 }
 
+// -0.0 is not below 0.0, but equal to it: hence the second test.
 pub fn abs(x: f32) -> f32
     ensures { λ r. ⌜ r ≡ abs₃₂ x ⌝ }
 {
@@ -37,6 +41,7 @@ pub fn abs(x: f32) -> f32
     }
 }
 
+// x itself where it lies between, so that -0.0 and a NaN stay.
 pub fn clamp(x: f32, lo: f32, hi: f32) -> f32
     ensures { λ r. ⌜ r ≡ clamp₃₂ x lo hi ⌝ }
 {
@@ -49,10 +54,17 @@ pub fn clamp(x: f32, lo: f32, hi: f32) -> f32
     }
 }
 
+// The third arm is for a NaN in b, and the second for one in a too.
 pub fn max(a: f32, b: f32) -> f32
     ensures { λ r. ⌜ r ≡ max₃₂ a b ⌝ }
 {
-    if a >= b { a } else { b }
+    if a >= b {
+        a
+    } else if b == b {
+        b
+    } else {
+        a
+    }
 }
 
 // The floor of a number, as an i32 and as that i32's f32.
@@ -61,8 +73,8 @@ pub struct Part {
     pub f: f32,
 }
 
-// x.floor() as i32. Below 2^23 a sum with 2^23 leaves no room for a fraction.
-pub fn floor_part(x: f32) -> Part
+// The same for every x, with more tests. Below 2^23 a sum with 2^23 leaves no room for a fraction.
+fn far_part(x: f32) -> Part
     ensures { λ r. ⌜ (r .i ≡ floorI x) × (r .f ≡ ofInt binary32 (floorI x)) ⌝ }
 {
     if x < 0.0 {
@@ -87,13 +99,28 @@ pub fn floor_part(x: f32) -> Part
     Part { i, f }
 }
 
-// x.floor().
+// x.floor() as i32, for every x. Near zero a sum with 3 * 2^22 leaves no room for a fraction, whatever the sign; so no
+// test is needed there that a processor could guess wrong.
+pub fn floor_part(x: f32) -> Part
+    ensures { λ r. ⌜ (r .i ≡ floorI x) × (r .f ≡ ofInt binary32 (floorI x)) ⌝ }
+{
+    if (x > -4194304.0) & (x < 4194304.0) {
+        let t = (x + 12582912.0) - 12582912.0;
+        let f = if t > x { t - 1.0 } else { t };
+        Part { i: f as i32, f }
+    } else {
+        far_part(x)
+    }
+}
+
+// x.floor(). A second caller keeps `far_part` a function of its own, so that `floor_part` stays short enough to be
+// inlined.
 pub fn floor(x: f32) -> f32
     ensures { λ r. ⌜ r ≡ floor₃₂ x ⌝ }
 {
     if x > -8388608.0 {
         if x < 8388608.0 {
-            let p = floor_part(x);
+            let p = far_part(x);
             let f = p.f;
             if f < x {
                 return f;

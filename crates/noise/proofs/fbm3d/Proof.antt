@@ -1,75 +1,54 @@
+-- `fbm3d` meets its contract: the loop has passed `counter` octaves. Assumes nothing.
 use mathlib.Core.Path.{_≡_, refl, sym, ap, _∙_}
-use Prim.Native.Nat.{ℕ, zero, suc, _≤_, _-_}
+use Prim.Native.Nat.{_≤_, _-_}
 use native.Mathlib.Omega.{arith}
-use native.Mathlib.Numerals.{add-one}
-use lib.Ieee.{Float, binary32, add, mul, div, ofBits}
+use lib.Ieee.{ofBits}
 use Rattle.words.specs.Num.{nearest}
-use Rattle.noise.specs.Noise.{Octaves, octave3, octaves3, fbm3d₃₂, num}
+use Rattle.noise.specs.Noise.{octaves, fbm, along3, fbm3d₃₂}
+use Rattle.noise.proofs.Loop.{state, turn, end}
 use Rattle.noise.proofs.fbm3d.Statement.{statement}
 use Rattle.noise.proofs.fbm3d.Tie as tie
-use Rattle.noise.proofs.fbm3d.Reads as reads
-use Rattle.noise.proofs.fbm3d.Lts as lts
-use Rattle.noise.proofs.noise3d.Reads as noise3d-reads
-
-abbrev state : Float → Float → Float → Float → Octaves
-state val amp freq max = record { val = val; amp = amp; freq = freq; max = max }
-
-some : (x y z : Float) (n : ℕ) → (n ≡ 0 → ⊥) → fbm3d₃₂ x y z n ≡ div binary32 (octaves3 x y z n .val) (octaves3 x y z n .max)
-unfolding fbm3d₃₂
-some x y z zero h = absurd (h refl)
-some x y z (suc n) h = refl
 
 abbrev Inv-loop : tie.InvT-loop
-Inv-loop x y z octaves val₀ amp₀ freq₀ max₀ i₀ val amp freq max counter = (counter ≤ octaves) × (octaves3 x y z counter ≡ state val amp freq max)
+Inv-loop x y z octaves′ val₀ amp₀ freq₀ max₀ i₀ val amp freq max counter =
+    (counter ≤ octaves′) × (octaves (along3 x y z) counter ≡ state val amp freq max)
 
 abbrev μ-loop : tie.MeasureT-loop
-μ-loop x y z octaves val₀ amp₀ freq₀ max₀ i₀ val amp freq max counter = octaves - counter
+μ-loop x y z octaves′ val₀ amp₀ freq₀ max₀ i₀ val amp freq max counter = octaves′ - counter
 
--- src/noise.rt:77:9
 returns : tie.Need-returns Inv-loop μ-loop
-unfolding fbm3d₃₂ nearest ofBits
+unfolding fbm3d₃₂ fbm nearest ofBits
 returns c = sym (ap (fbm3d₃₂ (c .before .args .x) (c .before .args .y) (c .before .args .z)) (c .if1 .taken))
 
--- src/noise.rt:84:5
 loop-holds : tie.Need-loop-holds Inv-loop μ-loop
-unfolding octaves3 nearest ofBits
+unfolding octaves nearest ofBits
 loop-holds c = (omega arith, refl)
 
--- src/noise.rt:85:21
 noise3d-requires : tie.Need-noise3d-requires Inv-loop μ-loop
 noise3d-requires c κs = tt
 
--- src/noise.rt:89:9
 add-counter : tie.Need-add-counter Inv-loop μ-loop
 add-counter c = omega arith
 
--- src/noise.rt:84:5
 loop-less : tie.Need-loop-less Inv-loop μ-loop
 loop-less c = omega arith
 
--- src/noise.rt:84:5
 loop-again : tie.Need-loop-again Inv-loop μ-loop
-unfolding octaves3 octave3 nearest ofBits
+unfolding along3 nearest ofBits
 loop-again c =
     let at = c .before .before in
-    let x = at .before .before .args .x in
-    let y = at .before .before .args .y in
-    let z = at .before .before .args .z in
-    let o = at .loop in (
-      omega arith,
-      ap (octaves3 x y z) (add-one (o .counter)) ∙ ap (octave3 x y z) (o .inv .1)
-          ∙ ap (λ (n : Float). state (add binary32 (o .val) (mul binary32 n (o .amp))) (mul binary32 (o .amp) (nearest 1 2)) (mul binary32 (o .freq) (num 2)) (add binary32 (o .max) (o .amp))) (sym (c .noise3d .ensures)),
-    )
+    let s = at .before .before in
+    (omega arith, turn (along3 (s .args .x) (s .args .y) (s .args .z)) (at .loop .counter) (at .loop .inv .1) (c .noise3d .ensures))
 
--- src/noise.rt:73:1
 returns-2 : tie.Need-returns-2 Inv-loop μ-loop
+unfolding fbm3d₃₂
 returns-2 c =
     let at = c .before in
     let s = at .before .before in
     let n = s .args .octaves in
     let e : at .loop .counter ≡ n = (let h : n ≤ at .loop .counter = c .loop-test .left in omega arith) in
-    let o = ap (octaves3 (s .args .x) (s .args .y) (s .args .z)) (sym e) ∙ at .loop .inv .1 in
-    sym (some (s .args .x) (s .args .y) (s .args .z) n (at .before .if1 .left) ∙ ap (λ (u : Octaves). div binary32 (u .val) (u .max)) o)
+    let noise = along3 (s .args .x) (s .args .y) (s .args .z) in
+    end noise n (at .before .if1 .left) (ap (octaves noise) (sym e) ∙ at .loop .inv .1)
 
 pub fbm3d-spec : {M : Type 1} → statement M
 fbm3d-spec =

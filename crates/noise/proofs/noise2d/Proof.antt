@@ -1,45 +1,28 @@
-use mathlib.Core.Path.{_≡_, refl, ap, ap₂, _∙_}
-use lib.IntN.{ℤ, pos}
-use lib.Ieee.{Float, binary32, sub, ofInt}
-use mir.Syntax.{w32}
-use mir.ValLaws.{toZ-ofZ}
-use Rattle.words.specs.Wrap.{addW}
-use Rattle.words.specs.Num.{floorI}
-use Rattle.noise.specs.Hash.{hash2₃₂, hash3₃₂}
-use Rattle.noise.specs.Noise.{smooth₃₂, lerp₃₂, ease₃₂, square₃₂, noise2d₃₂, layer₃₂, noise3d₃₂, next}
-use Rattle.words.proofs.Words.{read}
+-- `noise2d` meets its contract. Assumes nothing.
+use mathlib.Core.Path.{ap, _∙_}
+use lib.Ieee.{Float, binary32, sub}
+use Rattle.noise.specs.Noise.{smooth₃₂, ease₃₂, square₃₂, noise2d₃₂}
 use Rattle.words.proofs.Floor.{floor-again}
-use Rattle.words.proofs.Aps.{ap₃, ap₄, ap₅}
+use Rattle.words.specs.Laws.{ap₄}
 use borrow.Author.Needs.{needs}
 use Rattle.noise.proofs.noise2d.Statement.{statement}
 use Rattle.noise.proofs.noise2d.Tie as tie
-use Rattle.noise.proofs.noise2d.Reads as reads
-use Rattle.noise.proofs.noise2d.Lts as lts
-use Rattle.noise.proofs.smooth.Reads as smooth-reads
-use Rattle.noise.proofs.square2.Reads as square2-reads
-use Rattle.words.proofs.num.floor_part.Reads as floor-part-reads
 
--- src/noise.rt:36:9
 floor-part-requires : tie.Need-floor-part-requires
 floor-part-requires c κs = search needs
 
--- src/noise.rt:37:9
 floor-part-requires-2 : tie.Need-floor-part-requires-2
 floor-part-requires-2 c κs = search needs
 
--- src/noise.rt:38:9
 smooth-requires : tie.Need-smooth-requires
 smooth-requires c κs = search needs
 
--- src/noise.rt:39:9
 smooth-requires-2 : tie.Need-smooth-requires-2
 smooth-requires-2 c κs = search needs
 
--- src/noise.rt:42:5
 square2-requires : tie.Need-square2-requires
 square2-requires c κs = search needs
 
--- src/noise.rt:33:1
 returns : tie.Need-returns
 unfolding noise2d₃₂ ease₃₂
 returns c =
@@ -54,7 +37,8 @@ returns c =
     let s = c8 .before in
     let ex = c5 .smooth .ensures ∙ ap (λ (u : Float). smooth₃₂ (sub binary32 (s .args .x) u)) (c8 .floor-part .ensures .1) in
     let ey = c3 .smooth2 .ensures ∙ ap (λ (u : Float). smooth₃₂ (sub binary32 (s .args .y) u)) (c7 .floor-part2 .ensures .1) in
-    c .square2 .ensures ∙ ap₄ square₃₂ (floor-again (s .args .x) (c8 .floor-part .ensures .0)) (floor-again (s .args .y) (c7 .floor-part2 .ensures .0)) ex ey
+    c .square2 .ensures
+    ∙ ap₄ square₃₂ (floor-again (s .args .x) (c8 .floor-part .ensures .0)) (floor-again (s .args .y) (c7 .floor-part2 .ensures .0)) ex ey
 
 pub noise2d-spec : {M : Type 1} → statement M
 noise2d-spec =

@@ -1,67 +1,45 @@
-use mathlib.Core.Path.{_≡_, refl, ap, ap₂, _∙_}
-use lib.IntN.{ℤ, pos}
-use lib.Ieee.{Float, binary32, sub, ofInt}
+-- `noise3d` meets its contract. Assumes nothing.
+use mathlib.Core.Path.{ap, _∙_}
+use lib.Ieee.{Float, binary32, sub}
 use mir.Syntax.{w32}
-use mir.ValLaws.{toZ-ofZ}
-use Rattle.words.specs.Wrap.{addW}
-use Rattle.words.specs.Num.{floorI}
-use Rattle.noise.specs.Hash.{hash2₃₂, hash3₃₂}
-use Rattle.noise.specs.Noise.{smooth₃₂, lerp₃₂, ease₃₂, square₃₂, noise2d₃₂, layer₃₂, noise3d₃₂, next}
-use Rattle.words.proofs.Words.{read}
+use Rattle.noise.specs.Noise.{smooth₃₂, lerp₃₂, ease₃₂, layer₃₂, noise3d₃₂, next}
+use Rattle.words.specs.Laws.{read}
 use Rattle.words.proofs.Floor.{floor-again}
-use Rattle.words.proofs.Aps.{ap₃, ap₄, ap₅}
+use Rattle.words.specs.Laws.{ap₃, ap₅}
 use borrow.Author.Needs.{needs}
 use Rattle.noise.proofs.noise3d.Statement.{statement}
 use Rattle.noise.proofs.noise3d.Tie as tie
-use Rattle.noise.proofs.noise3d.Reads as reads
-use Rattle.noise.proofs.noise3d.Lts as lts
-use Rattle.noise.proofs.layer3.Reads as layer3-reads
-use Rattle.noise.proofs.lerp.Reads as lerp-reads
-use Rattle.noise.proofs.smooth.Reads as smooth-reads
-use Rattle.words.proofs.num.floor_part.Reads as floor-part-reads
-use Rattle.words.proofs.wrap.wrapping_add.Reads as wrapping-add-reads
 
--- src/noise.rt:60:9
 floor-part-requires : tie.Need-floor-part-requires
 floor-part-requires c κs = search needs
 
--- src/noise.rt:61:9
 floor-part-requires-2 : tie.Need-floor-part-requires-2
 floor-part-requires-2 c κs = search needs
 
--- src/noise.rt:62:9
 floor-part-requires-3 : tie.Need-floor-part-requires-3
 floor-part-requires-3 c κs = search needs
 
--- src/noise.rt:63:9
 smooth-requires : tie.Need-smooth-requires
 smooth-requires c κs = search needs
 
--- src/noise.rt:64:9
 smooth-requires-2 : tie.Need-smooth-requires-2
 smooth-requires-2 c κs = search needs
 
--- src/noise.rt:65:9
 smooth-requires-3 : tie.Need-smooth-requires-3
 smooth-requires-3 c κs = search needs
 
--- src/noise.rt:69:9
 wrapping-add-requires : tie.Need-wrapping-add-requires
 wrapping-add-requires c κs = search needs
 
--- src/noise.rt:70:10
 layer3-requires : tie.Need-layer3-requires
 layer3-requires c κs = search needs
 
--- src/noise.rt:70:38
 layer3-requires-2 : tie.Need-layer3-requires-2
 layer3-requires-2 c κs = search needs
 
--- src/noise.rt:70:5
 lerp-requires : tie.Need-lerp-requires
 lerp-requires c κs = search needs
 
--- src/noise.rt:57:1
 returns : tie.Need-returns
 unfolding noise3d₃₂ ease₃₂
 returns c =
@@ -87,8 +65,9 @@ returns c =
     let ix = floor-again (s .args .x) (c15 .floor-part .ensures .0) in
     let iy = floor-again (s .args .y) (c14 .floor-part2 .ensures .0) in
     let iz = floor-again (s .args .z) (c13 .floor-part3 .ensures .0) in
-    let jz = read (c3 .wrapping-add .ok) (c3 .wrapping-add .ensures ∙ ap next iz) in
-    c .lerp .ensures ∙ ap₃ lerp₃₂ (c2 .layer3 .ensures ∙ ap₅ layer₃₂ ix iy iz ex ey) (c1 .layer32 .ensures ∙ ap₅ layer₃₂ ix iy jz ex ey) ez
+    let jz = read w32 (c3 .wrapping-add .ok) (c3 .wrapping-add .ensures ∙ ap next iz) in
+    c .lerp .ensures
+    ∙ ap₃ lerp₃₂ (c2 .layer3 .ensures ∙ ap₅ layer₃₂ ix iy iz ex ey) (c1 .layer32 .ensures ∙ ap₅ layer₃₂ ix iy jz ex ey) ez
 
 pub noise3d-spec : {M : Type 1} → statement M
 noise3d-spec =

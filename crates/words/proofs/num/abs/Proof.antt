@@ -1,21 +1,17 @@
+-- `num::abs` meets its contract. Assumes nothing.
 use lib.Ieee.{ofBits}
 use Rattle.words.proofs.Floats.{is-T, abs-below, abs-zero, abs-above}
 use Rattle.words.proofs.num.abs.Statement.{statement}
 use Rattle.words.proofs.num.abs.Tie as tie
-use Rattle.words.proofs.num.abs.Reads as reads
-use Rattle.words.proofs.num.abs.Lts as lts
 
--- src/num.rt:28:1
 returns : tie.Need-returns
 unfolding ofBits
 returns c = abs-below (c .before .args .x) (c .if1 .taken)
 
--- src/num.rt:28:1
 returns-2 : tie.Need-returns-2
 unfolding ofBits
 returns-2 c = abs-zero (c .before .before .args .x) (is-T (c .before .before .good .0 .1)) (c .if2 .taken)
 
--- src/num.rt:28:1
 returns-3 : tie.Need-returns-3
 unfolding ofBits
 returns-3 c = abs-above (c .before .before .args .x) (c .before .if1 .left) (c .if2 .left)

@@ -1,21 +1,17 @@
+-- `num::clamp` meets its contract. Assumes nothing.
 use mathlib.Core.Path.{sym}
 use Rattle.words.specs.Num.{clamp₃₂}
 use Rattle.words.proofs.num.clamp.Statement.{statement}
 use Rattle.words.proofs.num.clamp.Tie as tie
-use Rattle.words.proofs.num.clamp.Reads as reads
-use Rattle.words.proofs.num.clamp.Lts as lts
 
--- src/num.rt:40:1
 returns : tie.Need-returns
 unfolding clamp₃₂
 returns c = sym (simp (c .if1 .taken))
 
--- src/num.rt:40:1
 returns-2 : tie.Need-returns-2
 unfolding clamp₃₂
 returns-2 c = sym (simp (c .before .if1 .left, c .if2 .taken))
 
--- src/num.rt:40:1
 returns-3 : tie.Need-returns-3
 unfolding clamp₃₂
 returns-3 c = sym (simp (c .before .if1 .left, c .if2 .left))

@@ -1,114 +1,41 @@
-use mathlib.Core.Path.{_≡_, _∙_, ap}
-use mathlib.Core.Bool.{false}
+-- `num::floor_part` meets its contract. Assumes nothing.
+use mathlib.Core.Path.{sym, subst, _∙_}
+use mathlib.Core.Bool.{true, false}
 use mathlib.Core.Logic.{⊎-elim}
-use Rattle.words.proofs.Words.{read}
+use borrow.Author.Needs.{needs}
 use lib.IntN.{pos}
-use lib.Ieee.{Float, fin, binary32, sub, ofBits, neg, ofInt, toSigned}
+use lib.Ieee.{fin, lt, ofBits, neg, toSigned}
 use lib.Ieee.Casts.{toSigned-in}
 use mir.Syntax.{w32}
-use mir.Val.{ofZ, toZ}
 use mir.ValLaws.{toZ-ofZ}
-use Rattle.words.specs.Num.{floorI, toI32}
-use Rattle.words.proofs.Floats.{is-T}
-use Rattle.words.proofs.Floor.{Fast, lift, sink, fast-above, fast-below, far-above, far-below}
-use borrow.Author.Needs.{needs}
+use Rattle.words.proofs.Floats.{is-T, both}
+use Rattle.words.proofs.Floor.{Fast, fast-centre}
 use Rattle.words.proofs.num.floor_part.Statement.{statement}
 use Rattle.words.proofs.num.floor_part.Tie as tie
-use Rattle.words.proofs.num.floor_part.Reads as reads
-use Rattle.words.proofs.num.floor_part.Lts as lts
-use Rattle.words.proofs.num.of_i32.Reads as of-i32-reads
-use Rattle.words.proofs.num.to_i32.Reads as to-i32-reads
 
-answer : {x g : Float} → Fast x g → (toZ w32 (ofZ w32 (toSigned 31 g)) ≡ floorI x) × (g ≡ ofInt binary32 (floorI x))
-answer {x} {g} f = (toZ-ofZ w32 (toSigned 31 g) (record { sfits = toSigned-in 31 g }) ∙ f .int, f .float)
-
-under : (c : tie.After-row-known) → Fast (c .before .before .before .before .args .x) (sub binary32 (sink (c .before .before .before .before .args .x)) (fin false 1 (pos 0)))
+-- the float that is answered, by whichever arm it came
+near : (c : tie.After-row-known) → Fast (c .before .before .before .args .x) (c .before .if2 .f)
 unfolding ofBits neg
-under c = fast-below (c .before .before .before .before .args .x) (c .before .before .before .if1 .taken) (c .before .before .if2 .taken) .0 (c .before .if3 .taken)
-
-under2 : (c : tie.After-row-known2) → Fast (c .before .before .before .before .args .x) (sink (c .before .before .before .before .args .x))
-unfolding ofBits neg
-under2 c = fast-below (c .before .before .before .before .args .x) (c .before .before .before .if1 .taken) (c .before .before .if2 .taken) .1 (c .before .if3 .left)
-
-over : (c : tie.After-row-known3) → Fast (c .before .before .before .before .args .x) (sub binary32 (lift (c .before .before .before .before .args .x)) (fin false 1 (pos 0)))
-unfolding ofBits neg
-over c = fast-above (c .before .before .before .before .args .x) (is-T (c .before .before .before .before .good .0 .1)) (c .before .before .before .if1 .left) (c .before .before .if4 .taken) .0 (c .before .if5 .taken)
-
-over2 : (c : tie.After-row-known4) → Fast (c .before .before .before .before .args .x) (lift (c .before .before .before .before .args .x))
-unfolding ofBits neg
-over2 c = fast-above (c .before .before .before .before .args .x) (is-T (c .before .before .before .before .good .0 .1)) (c .before .before .before .if1 .left) (c .before .before .if4 .taken) .1 (c .before .if5 .left)
-
--- src/num.rt:73:34
-float-to-int-t13 : tie.Need-float-to-int-t13
-unfolding ofBits neg
-float-to-int-t13 c = under c .casts
-
--- src/num.rt:73:17
-returns : tie.Need-returns
-unfolding ofBits neg
-returns c = answer (under c)
-
--- src/num.rt:75:30
-float-to-int-t14 : tie.Need-float-to-int-t14
-unfolding ofBits neg
-float-to-int-t14 c = under2 c .casts
-
--- src/num.rt:75:13
-returns-2 : tie.Need-returns-2
-unfolding ofBits neg
-returns-2 c = answer (under2 c)
-
--- src/num.rt:81:30
-float-to-int-t18 : tie.Need-float-to-int-t18
-unfolding ofBits neg
-float-to-int-t18 c = over c .casts
-
--- src/num.rt:81:13
-returns-3 : tie.Need-returns-3
-unfolding ofBits neg
-returns-3 c = answer (over c)
-
--- src/num.rt:83:26
-float-to-int-t19 : tie.Need-float-to-int-t19
-unfolding ofBits neg
-float-to-int-t19 c = over2 c .casts
-
--- src/num.rt:83:9
-returns-4 : tie.Need-returns-4
-unfolding ofBits neg
-returns-4 c = answer (over2 c)
-
--- src/num.rt:85:9
-to-i32-requires : tie.Need-to-i32-requires
-to-i32-requires c κs = search needs
-
--- src/num.rt:86:9
-of-i32-requires : tie.Need-of-i32-requires
-of-i32-requires c κs = search needs
-
--- src/num.rt:65:1
-returns-5 : tie.Need-returns-5
-unfolding ofBits neg
-returns-5 c =
+near c =
     let s = c .before .before .before in
     let x = s .args .x in
-    let far : toI32 x ≡ floorI x =
-    ⊎-elim (λ w. far-below x (is-T (s .good .0 .1)) (w .0 .taken) (w .1 .left)) (λ w. far-above x (is-T (s .good .0 .1)) (w .0 .left) (w .1 .left)) (c .before .before .if1 .came) in
-    let e = c .before .to-i32 .ensures ∙ far in
-    (read (c .before .to-i32 .ok) e, c .of-i32 .ensures ∙ ap (ofInt binary32) (read (c .before .to-i32 .ok) e))
+    let h = both (lt (fin true 1 (pos 22)) x) (lt x (fin false 1 (pos 22))) (c .before .before .if1 .taken) in
+    let b = fast-centre x (is-T (s .good .0 .1)) (h .0) (h .1) in
+    ⊎-elim (λ w. subst (Fast x) (sym (w .1)) (b .0 (w .0 .taken))) (λ w. subst (Fast x) (sym (w .1)) (b .1 (w .0 .left))) (c .before .if2 .came)
+
+float-to-int-t12 : tie.Need-float-to-int-t12
+float-to-int-t12 c = near c .casts
+
+far-part-requires : tie.Need-far-part-requires
+far-part-requires c κs = search needs
+
+returns : tie.Need-returns
+returns c =
+    let f = near c in
+    (toZ-ofZ w32 (toSigned 31 (c .before .if2 .f)) (record { sfits = toSigned-in 31 (c .before .if2 .f) }) ∙ f .int, f .float)
+
+returns-2 : tie.Need-returns-2
+returns-2 c = search needs
 
 pub floor-part-spec : {M : Type 1} → statement M
-floor-part-spec =
-    tie.close
-    (tie.spec
-    float-to-int-t13
-    returns
-    float-to-int-t14
-    returns-2
-    float-to-int-t18
-    returns-3
-    float-to-int-t19
-    returns-4
-    to-i32-requires
-    of-i32-requires
-    returns-5)
+floor-part-spec = tie.close (tie.spec float-to-int-t12 far-part-requires returns returns-2)

@@ -1,3 +1,4 @@
+-- `num::of_i32` meets its contract. Assumes nothing.
 use mathlib.Core.Path.{_∙_, ap}
 use lib.Ieee.{binary32, ofInt}
 use mir.Syntax.{w32}
@@ -5,17 +6,13 @@ use mir.ValLaws.{toZ-ofZ}
 use borrow.Author.Needs.{needs}
 use Rattle.words.proofs.num.of_i32.Statement.{statement}
 use Rattle.words.proofs.num.of_i32.Tie as tie
-use Rattle.words.proofs.num.of_i32.Reads as reads
-use Rattle.words.proofs.num.of_i32.Lts as lts
-use Rattle.std.proofs.num.nearest_i32_to_f32.Reads as nearest-i32-to-f32-reads
 
--- src/num.rt:25:5
 nearest-i32-to-f32-requires : tie.Need-nearest-i32-to-f32-requires
 nearest-i32-to-f32-requires c κs = search needs
 
--- src/num.rt:22:1
 returns : tie.Need-returns
-returns c = c .nearest-i32-to-f32 .ensures ∙ ap (ofInt binary32) (toZ-ofZ w32 (c .before .args .n) (c .before .fits .n))
+returns c =
+    c .nearest-i32-to-f32 .ensures ∙ ap (ofInt binary32) (toZ-ofZ w32 (c .before .args .n) (c .before .fits .n))
 
 pub of-i32-spec : {M : Type 1} → statement M
 of-i32-spec = tie.close (tie.spec nearest-i32-to-f32-requires returns)

@@ -1,8 +1,8 @@
 -- `wrap::bits_of` meets its contract. Assumes nothing.
-use mathlib.Core.Path.{_≡_, refl, sym, ap, _∙_, subst}
-use Prim.Native.Nat.{ℕ, _-_, suc, _≤_}
+use mathlib.Core.Path.{_≡_, sym, ap, _∙_, subst}
+use Prim.Native.Nat.{_-_, suc, _≤_}
 use native.Mathlib.Omega.{arith}
-use lib.IntN.{ℤ, natAbs, pos}
+use lib.IntN.{ℤ, natAbs}
 use lib.Dec.{T}
 use lib.Signed.{nonNeg}
 use mir.Syntax.{w32}
@@ -35,7 +35,9 @@ returns c = at-least (c .before .args .x) (c .before .fits .x) (c .if1 .taken) .
 returns-2 : tie.Need-returns-2
 returns-2 c =
     let g = negative (c .before .args .x) (c .before .fits .x) (c .if1 .left) in
-    ap (λ (u : ℤ). 4294967295 - natAbs u) (g .back) ∙ (let s = g .small in let e : 4294967295 - g .n ≡ 4294967296 - suc (g .n) = omega arith in e) ∙ ap (ofZ w32) (sym (g .is))
+    ap (λ (u : ℤ). 4294967295 - natAbs u) (g .back)
+    ∙ (let s = g .small in let e : 4294967295 - g .n ≡ 4294967296 - suc (g .n) = omega arith in e)
+    ∙ ap (ofZ w32) (sym (g .is))
 
 pub bits-of-spec : {M : Type 1} → statement M
 bits-of-spec =

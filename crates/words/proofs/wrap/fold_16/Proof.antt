@@ -13,7 +13,8 @@ use Rattle.words.proofs.wrap.fold_16.Tie as tie
 
 returns : tie.Need-returns
 unfolding foldW
-returns c = ap (λ (u : ℤ). toZ w32 (bitXor (ofZ w32 (c .args .h)) (ofZ w32 (shrZ u (2 ^ 16))))) (toZ-ofZ w32 (c .args .h) (c .fits .h))
+returns c =
+    ap (λ (u : ℤ). toZ w32 (bitXor (ofZ w32 (c .args .h)) (ofZ w32 (shrZ u (2 ^ 16))))) (toZ-ofZ w32 (c .args .h) (c .fits .h))
 
 pub fold-16-spec : {M : Type 1} → statement M
 fold-16-spec = tie.close (tie.spec returns)

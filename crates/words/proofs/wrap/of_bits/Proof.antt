@@ -1,13 +1,13 @@
 -- `wrap::of_bits` meets its contract. Assumes nothing.
 use borrow.Author.Needs.{needs}
 use borrow.Author.Tests.{le-ltb}
-use mathlib.Core.Path.{_≡_, refl, sym, ap, _∙_, subst}
+use mathlib.Core.Path.{_≡_, sym, ap, _∙_, subst}
 use mathlib.Core.Bool.{Bool}
 use Prim.Native.Nat.{ℕ, _-_, suc, _≤_, _<_, _^_}
 use native.Mathlib.Omega.{arith}
 use lib.IntN.{ℤ, pos, negsuc, _-ℤ_}
 use mir.Syntax.{w32}
-use mir.Val.{SFits, Fits, ofZ, toZ, sel}
+use mir.Val.{SFits, toZ, sel}
 use mir.ValLaws.{toZ-pos, toZ-ofZ}
 use Rattle.words.proofs.Words.{minus-pos, again}
 use Rattle.words.proofs.wrap.of_bits.Statement.{statement}
@@ -23,7 +23,8 @@ cast-result-2 : tie.Need-cast-result-2
 cast-result-2 c = search needs
 
 flipped : (n : ℕ) → 2147483648 ≤ n → n < 2 ^ 32 → negsuc 0 -ℤ toZ w32 (4294967295 - n) ≡ negsuc (4294967295 - n)
-flipped n h k = ap (λ (u : ℤ). negsuc 0 -ℤ u) (toZ-pos w32 (4294967295 - n) (omega arith)) ∙ minus-pos (4294967295 - n)
+flipped n h k =
+    ap (λ (u : ℤ). negsuc 0 -ℤ u) (toZ-pos w32 (4294967295 - n) (omega arith)) ∙ minus-pos (4294967295 - n)
 
 sub-result-2 : tie.Need-sub-result-2
 sub-result-2 c =
