@@ -1,0 +1,140 @@
+-- The height and the biome of a column, every f32 operation rounded once, in the order of `terrain.rs`. Assumes nothing.
+use Prim.Native.Nat.{ℕ}
+use mathlib.Core.Bool.{Bool, _&&_, cond}
+use lib.IntN.{ℤ, pos}
+use lib.Signed.{ltZ}
+use lib.Ieee.{Float, neg, lt, le}
+use Rattle.words.specs.Num.{nearest, abs₃₂, clamp₃₂, max₃₂, floor₃₂, toI32}
+use Rattle.noise.specs.Noise.{fbm2d₃₂, smooth₃₂}
+use Rattle.column.specs.Floats.{_+f_, _-f_, _*f_, _/f_, nat, real, square}
+use Rattle.column.specs.declared.Column.{Column}
+use Rattle.column.specs.declared.Relief.{Relief}
+use Rattle.column.specs.declared.Surface.{Surface}
+use Rattle.column.specs.declared.Biome.{Biome}
+use Rattle.column.specs.declared.Biome.the-variants.{Desert, Mountain, Forest, Plains}
+
+unfoldable pub offsetFbm₃₂ : Float → Float → Float → Float → Float → ℕ → Float
+offsetFbm₃₂ x z scale dx dz octaves = fbm2d₃₂ (x *f scale +f dx) (z *f scale +f dz) octaves
+
+unfoldable pub scaledFbm₃₂ : Float → Float → Float → ℕ → Float
+scaledFbm₃₂ x z scale octaves = fbm2d₃₂ (x *f scale) (z *f scale) octaves
+
+-- t * t * (3 - 2 * t), t from 0 to 1 across the width around the edge
+unfoldable pub smoothRamp₃₂ : Float → Float → Float → Float
+smoothRamp₃₂ val edge width = smooth₃₂ (clamp₃₂ ((val -f edge) /f width +f nearest 1 2) (nat 0) (nat 1))
+
+unfoldable pub ridge₃₂ : Float → Float
+ridge₃₂ n = nat 1 -f abs₃₂ (n -f nearest 1 2) *f nat 2
+
+unfoldable pub ridges₃₂ : Float → Float → Float
+ridges₃₂ x z =
+    square (ridge₃₂ (offsetFbm₃₂ x z (nearest 8 1000) (nat 500) (nat 500) 4)) *f nearest 7 10
+    +f square (ridge₃₂ (offsetFbm₃₂ x z (nearest 15 1000) (nat 300) (nat 200) 3)) *f nearest 3 10
+
+unfoldable pub plateau₃₂ : Float → Float
+plateau₃₂ raw = floor₃₂ (raw *f nat 5) /f nat 5 *f nearest 6 10 +f raw *f nearest 4 10
+
+unfoldable pub continent₃₂ : Float → Float → Float
+continent₃₂ x z =
+    scaledFbm₃₂ (x +f offsetFbm₃₂ x z (nearest 3 1000) (nat 700) (nat 800) 3 *f nat 40) (z +f offsetFbm₃₂ x z (nearest 3 1000) (nat 900) (nat 100) 3 *f nat 40) (nearest 4 1000) 5
+
+unfoldable pub reliefOf : Float → Float → Relief
+reliefOf x z = record {
+  continent = continent₃₂ x z;
+  detail = scaledFbm₃₂ x z (nearest 25 1000) 4;
+  micro = scaledFbm₃₂ x z (nearest 8 100) 2;
+  ridges = ridges₃₂ x z;
+  plateau = plateau₃₂ (offsetFbm₃₂ x z (nearest 6 1000) (neg (nat 400)) (nat 600) 3);
+  dune = offsetFbm₃₂ x z (nearest 2 100) (nat 50) (nat 50) 3;
+  «hill_factor» = offsetFbm₃₂ x z (nearest 1 100) (nat 150) (nat 250) 3;
+}
+
+-- 01, Column: "The climate values, four weights and four heights of a column are kept together as one f32 record."
+abbrev pub columnWith : Float → Float → Float → Float → Float → Float → Float → Float → Float → Float → Column
+columnWith temp moisture dw mw fw pw dh mh fh ph = record {
+  temp = temp;
+  moisture = moisture;
+  dw = dw;
+  mw = mw;
+  fw = fw;
+  pw = pw;
+  «desert_h» = dh;
+  «mountain_h» = mh;
+  «forest_h» = fh;
+  «plains_h» = ph;
+}
+
+-- the climate; no weights and heights yet
+unfoldable pub climateOf : Float → Float → Column
+climateOf x z =
+    columnWith (offsetFbm₃₂ x z (nearest 3 1000) (nat 100) (nat 100) 4) (offsetFbm₃₂ x z (nearest 4 1000) (neg (nat 200)) (nat 300) 4)
+    (nat 0) (nat 0) (nat 0) (nat 0) (nat 0) (nat 0) (nat 0) (nat 0)
+
+-- hot and dry; cold; wet, where the other two leave room; the rest, and at least 0.01
+unfoldable pub desertWeight₃₂ : Column → Float
+desertWeight₃₂ c = smoothRamp₃₂ (c .temp) (nearest 6 10) (nearest 1 10) *f smoothRamp₃₂ (neg (c .moisture)) (neg (nearest 35 100)) (nearest 1 10)
+
+unfoldable pub mountainWeight₃₂ : Column → Float
+mountainWeight₃₂ c = smoothRamp₃₂ (neg (c .temp)) (neg (nearest 3 10)) (nearest 1 10)
+
+unfoldable pub forestWeight₃₂ : Column → Float
+forestWeight₃₂ c = smoothRamp₃₂ (c .moisture) (nearest 55 100) (nearest 1 10) *f (nat 1 -f desertWeight₃₂ c) *f (nat 1 -f mountainWeight₃₂ c)
+
+unfoldable pub plainsWeight₃₂ : Column → Float
+plainsWeight₃₂ c = max₃₂ (nat 1 -f desertWeight₃₂ c -f mountainWeight₃₂ c -f forestWeight₃₂ c) (nearest 1 100)
+
+-- the weights d, m, f, p as shares of their sum
+abbrev pub withShares : Column → Float → Float → Float → Float → Column
+withShares c d m f p =
+    let total = d +f m +f f +f p in
+    columnWith (c .temp) (c .moisture) (d /f total) (m /f total) (f /f total) (p /f total) (c .«desert_h») (c .«mountain_h») (c .«forest_h») (c .«plains_h»)
+
+unfoldable pub weightsOf : Column → Column
+weightsOf c = withShares c (desertWeight₃₂ c) (mountainWeight₃₂ c) (forestWeight₃₂ c) (plainsWeight₃₂ c)
+
+unfoldable pub hillBoost₃₂ : Float → Float
+hillBoost₃₂ h = cond (lt (nearest 65 100) h) ((h -f nearest 65 100) *f nat 80) (nat 0)
+
+unfoldable pub coldBoost₃₂ : Float → Float
+coldBoost₃₂ t = clamp₃₂ ((nearest 3 10 -f t) *f nat 5) (nat 0) (nat 1)
+
+unfoldable pub heightsOf : Column → Relief → Float → Column
+heightsOf c n sl =
+    columnWith (c .temp) (c .moisture) (c .dw) (c .mw) (c .fw) (c .pw)
+    (sl +f nat 1 +f n .continent *f nat 6 +f n .dune *f nat 6 +f n .micro *f nat 2)
+    (sl +f nat 6 +f (n .continent *f nat 20 +f n .ridges *f nat 55 +f n .detail *f nat 12 +f n .micro *f nat 3) *f (nat 1 +f coldBoost₃₂ (c .temp) *f nearest 1 2))
+    (sl +f nat 3 +f n .continent *f nat 14 +f n .plateau *f nat 8 +f n .detail *f nat 10 +f n .micro *f nat 3)
+    (sl +f nat 2 +f n .continent *f nat 10 +f n .detail *f nat 6 +f n .micro *f nat 2 +f hillBoost₃₂ (n .«hill_factor»))
+
+-- from the climate over the weights to the heights
+unfoldable pub columnOf : Float → Float → Float → Column
+columnOf x z sl = heightsOf (weightsOf (climateOf x z)) (reliefOf x z) sl
+
+unfoldable pub blend₃₂ : Column → Float
+blend₃₂ c = c .dw *f c .«desert_h» +f c .mw *f c .«mountain_h» +f c .fw *f c .«forest_h» +f c .pw *f c .«plains_h»
+
+abbrev pub atLeast : Float → Float → Bool
+atLeast a b = le b a
+
+-- "Equal weights: Desert, Mountain, Forest, Plains, the first named wins."
+unfoldable pub dominantOf : Column → Biome
+dominantOf c =
+    cond (atLeast (c .dw) (c .mw) && atLeast (c .dw) (c .fw) && atLeast (c .dw) (c .pw)) Desert
+    (cond (atLeast (c .mw) (c .fw) && atLeast (c .mw) (c .pw)) Mountain (cond (atLeast (c .fw) (c .pw)) Forest Plains))
+
+unfoldable pub clampOf : ℤ → ℤ → ℤ → ℤ
+clampOf n lo hi = cond (ltZ n lo) lo (cond (ltZ hi n) hi n)
+
+unfoldable pub heightOf : Column → ℤ → ℤ
+heightOf c maxHeight = clampOf (toI32 (blend₃₂ c)) (pos 1) maxHeight
+
+-- the column at world coordinates; the seed only moves the coordinates
+unfoldable pub columnAt : ℤ → ℤ → ℤ → Float → Column
+columnAt wx wz sea seedOffset = columnOf (real wx +f seedOffset) (real wz +f seedOffset) (real sea)
+
+abbrev pub surface : Biome → ℤ → Surface
+surface b h = record { biome = b; height = h }
+
+-- `get_biome`
+unfoldable pub biomeAndHeight : ℤ → ℤ → ℤ → ℤ → Float → Surface
+biomeAndHeight wx wz sea maxHeight seedOffset = surface (dominantOf (columnAt wx wz sea seedOffset)) (heightOf (columnAt wx wz sea seedOffset) maxHeight)

@@ -1,0 +1,245 @@
+// The height and the biome of a column of the world: `get_biome` of terrain.rs.
+ghost use mathlib.Core.Path.{_≡_};
+ghost use Rattle.column.specs.Column.{offsetFbm₃₂, scaledFbm₃₂, smoothRamp₃₂, ridge₃₂, ridges₃₂, plateau₃₂, continent₃₂, hillBoost₃₂, coldBoost₃₂, reliefOf, climateOf, weightsOf, heightsOf, blend₃₂, dominantOf, clampOf, columnOf, heightOf, biomeAndHeight};
+use noise::fbm2d;
+use words::num::abs;
+use words::num::clamp;
+use words::num::floor;
+use words::num::max;
+use words::num::of_i32;
+use words::num::to_i32;
+
+pub enum Biome {
+    Desert,
+    Mountain,
+    Forest,
+    Plains,
+}
+
+// A column's climate, then its weights, then its heights: of desert, mountain, forest and plains.
+pub struct Column {
+    pub temp: f32,
+    pub moisture: f32,
+    pub dw: f32,
+    pub mw: f32,
+    pub fw: f32,
+    pub pw: f32,
+    pub desert_h: f32,
+    pub mountain_h: f32,
+    pub forest_h: f32,
+    pub plains_h: f32,
+}
+
+// The noise that shapes the four heights.
+pub struct Relief {
+    pub continent: f32,
+    pub detail: f32,
+    pub micro: f32,
+    pub ridges: f32,
+    pub plateau: f32,
+    pub dune: f32,
+    pub hill_factor: f32,
+}
+
+// What `get_biome` answers in the Rust as a pair.
+pub struct Surface {
+    pub biome: Biome,
+    pub height: i32,
+}
+
+fn offset_fbm(x: f32, z: f32, scale: f32, dx: f32, dz: f32, octaves: u32) -> f32
+    ensures { λ r. ⌜ r ≡ offsetFbm₃₂ x z scale dx dz octaves ⌝ }
+{
+    fbm2d(x * scale + dx, z * scale + dz, octaves)
+}
+
+fn scaled_fbm(x: f32, z: f32, scale: f32, octaves: u32) -> f32
+    ensures { λ r. ⌜ r ≡ scaledFbm₃₂ x z scale octaves ⌝ }
+{
+    fbm2d(x * scale, z * scale, octaves)
+}
+
+// From 0 to 1 around `edge`, smoothed.
+fn smooth_ramp(val: f32, edge: f32, width: f32) -> f32
+    ensures { λ r. ⌜ r ≡ smoothRamp₃₂ val edge width ⌝ }
+{
+    let t = clamp((val - edge) / width + 0.5, 0.0, 1.0);
+    t * t * (3.0 - 2.0 * t)
+}
+
+fn ridge(n: f32) -> f32
+    ensures { λ r. ⌜ r ≡ ridge₃₂ n ⌝ }
+{
+    1.0 - abs(n - 0.5) * 2.0
+}
+
+fn ridges(x: f32, z: f32) -> f32
+    ensures { λ r. ⌜ r ≡ ridges₃₂ x z ⌝ }
+{
+    let ridge1 = ridge(offset_fbm(x, z, 0.008, 500.0, 500.0, 4));
+    let ridge2 = ridge(offset_fbm(x, z, 0.015, 300.0, 200.0, 3));
+    ridge1 * ridge1 * 0.7 + ridge2 * ridge2 * 0.3
+}
+
+fn plateau(raw: f32) -> f32
+    ensures { λ r. ⌜ r ≡ plateau₃₂ raw ⌝ }
+{
+    let steps = floor(raw * 5.0) / 5.0;
+    steps * 0.6 + raw * 0.4
+}
+
+// The large shape, its coordinates warped by noise.
+fn continent(x: f32, z: f32) -> f32
+    ensures { λ r. ⌜ r ≡ continent₃₂ x z ⌝ }
+{
+    let warp_x = offset_fbm(x, z, 0.003, 700.0, 800.0, 3) * 40.0;
+    let warp_z = offset_fbm(x, z, 0.003, 900.0, 100.0, 3) * 40.0;
+    scaled_fbm(x + warp_x, z + warp_z, 0.004, 5)
+}
+
+fn relief_at(x: f32, z: f32) -> Relief
+    ensures { λ r. ⌜ r ≡ reliefOf x z ⌝ }
+{
+    let continent = continent(x, z);
+    let detail = scaled_fbm(x, z, 0.025, 4);
+    let micro = scaled_fbm(x, z, 0.08, 2);
+    let ridges = ridges(x, z);
+    let plateau = plateau(offset_fbm(x, z, 0.006, -400.0, 600.0, 3));
+    let dune = offset_fbm(x, z, 0.02, 50.0, 50.0, 3);
+    let hill_factor = offset_fbm(x, z, 0.01, 150.0, 250.0, 3);
+    Relief {
+        continent,
+        detail,
+        micro,
+        ridges,
+        plateau,
+        dune,
+        hill_factor,
+    }
+}
+
+// The column with its climate only.
+fn climate(x: f32, z: f32) -> Column
+    ensures { λ r. ⌜ r ≡ climateOf x z ⌝ }
+{
+    let temp = offset_fbm(x, z, 0.003, 100.0, 100.0, 4);
+    let moisture = offset_fbm(x, z, 0.004, -200.0, 300.0, 4);
+    Column {
+        temp,
+        moisture,
+        dw: 0.0,
+        mw: 0.0,
+        fw: 0.0,
+        pw: 0.0,
+        desert_h: 0.0,
+        mountain_h: 0.0,
+        forest_h: 0.0,
+        plains_h: 0.0,
+    }
+}
+
+// The four weights as shares of their sum.
+fn weights(c: Column) -> Column
+    ensures { λ r. ⌜ r ≡ weightsOf c ⌝ }
+{
+    let desert_w = smooth_ramp(c.temp, 0.6, 0.1) * smooth_ramp(-c.moisture, -0.35, 0.1);
+    let mountain_w = smooth_ramp(-c.temp, -0.3, 0.1);
+    let forest_w = smooth_ramp(c.moisture, 0.55, 0.1) * (1.0 - desert_w) * (1.0 - mountain_w);
+    let plains_w = max(1.0 - desert_w - mountain_w - forest_w, 0.01);
+    let total = desert_w + mountain_w + forest_w + plains_w;
+    let mut r = c;
+    r.dw = desert_w / total;
+    r.mw = mountain_w / total;
+    r.fw = forest_w / total;
+    r.pw = plains_w / total;
+    r
+}
+
+fn hill_boost(hill_factor: f32) -> f32
+    ensures { λ r. ⌜ r ≡ hillBoost₃₂ «hill_factor» ⌝ }
+{
+    if hill_factor > 0.65 {
+        (hill_factor - 0.65) * 80.0
+    } else {
+        0.0
+    }
+}
+
+fn cold_boost(temp: f32) -> f32
+    ensures { λ r. ⌜ r ≡ coldBoost₃₂ temp ⌝ }
+{
+    clamp((0.3 - temp) * 5.0, 0.0, 1.0)
+}
+
+// The four heights above the sea level `sl`.
+fn heights(c: Column, n: Relief, sl: f32) -> Column
+    ensures { λ r. ⌜ r ≡ heightsOf c n sl ⌝ }
+{
+    let mountain_base = n.continent * 20.0 + n.ridges * 55.0 + n.detail * 12.0 + n.micro * 3.0;
+    let cold = cold_boost(c.temp);
+    let hill = hill_boost(n.hill_factor);
+    let mut r = c;
+    r.desert_h = sl + 1.0 + n.continent * 6.0 + n.dune * 6.0 + n.micro * 2.0;
+    r.mountain_h = sl + 6.0 + mountain_base * (1.0 + cold * 0.5);
+    r.forest_h = sl + 3.0 + n.continent * 14.0 + n.plateau * 8.0 + n.detail * 10.0 + n.micro * 3.0;
+    r.plains_h = sl + 2.0 + n.continent * 10.0 + n.detail * 6.0 + n.micro * 2.0 + hill;
+    r
+}
+
+fn column_at(x: f32, z: f32, sl: f32) -> Column
+    ensures { λ r. ⌜ r ≡ columnOf x z sl ⌝ }
+{
+    let c = weights(climate(x, z));
+    heights(c, relief_at(x, z), sl)
+}
+
+fn blend(c: Column) -> f32
+    ensures { λ r. ⌜ r ≡ blend₃₂ c ⌝ }
+{
+    c.dw * c.desert_h + c.mw * c.mountain_h + c.fw * c.forest_h + c.pw * c.plains_h
+}
+
+// The biome of the greatest weight; of equal ones the first.
+fn dominant_biome(c: Column) -> Biome
+    ensures { λ r. ⌜ r ≡ dominantOf c ⌝ }
+{
+    if (c.dw >= c.mw) & (c.dw >= c.fw) & (c.dw >= c.pw) {
+        Biome::Desert
+    } else if (c.mw >= c.fw) & (c.mw >= c.pw) {
+        Biome::Mountain
+    } else if c.fw >= c.pw {
+        Biome::Forest
+    } else {
+        Biome::Plains
+    }
+}
+
+fn clamp_i32(n: i32, lo: i32, hi: i32) -> i32
+    ensures { λ r. ⌜ r ≡ clampOf n lo hi ⌝ }
+{
+    if n < lo {
+        lo
+    } else if n > hi {
+        hi
+    } else {
+        n
+    }
+}
+
+fn blended_height(c: Column, max_height: i32) -> i32
+    ensures { λ r. ⌜ r ≡ heightOf c «max_height» ⌝ }
+{
+    clamp_i32(to_i32(blend(c)), 1, max_height)
+}
+
+pub fn get_biome(wx: i32, wz: i32, sea_level: i32, max_height: i32, seed_offset: f32) -> Surface
+    ensures { λ r. ⌜ r ≡ biomeAndHeight wx wz «sea_level» «max_height» «seed_offset» ⌝ }
+{
+    let x = of_i32(wx) + seed_offset;
+    let z = of_i32(wz) + seed_offset;
+    let sl = of_i32(sea_level);
+    let c = column_at(x, z, sl);
+    let height = blended_height(c, max_height);
+    let biome = dominant_biome(c);
+    Surface { biome, height }
+}

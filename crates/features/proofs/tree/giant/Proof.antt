@@ -1,0 +1,15 @@
+-- `features::tree::giant` meets its contract. Assumes nothing.
+use mathlib.Core.Path.{refl}
+use mathlib.Core.List.{[]}
+use lib.Ieee.{ofBits}
+use Rattle.words.specs.Num.{nearest}
+use Rattle.features.specs.Features.{isGiant}
+use Rattle.features.proofs.tree.giant.Statement.{statement}
+use Rattle.features.proofs.tree.giant.Tie as tie
+
+returns : tie.Need-returns
+unfolding isGiant nearest ofBits
+returns c = refl
+
+pub giant-spec : {M : Type 1} → statement M
+giant-spec = tie.close (tie.spec returns)

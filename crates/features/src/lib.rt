@@ -1,0 +1,2 @@
+pub mod boulder;
+pub mod tree;

@@ -1,0 +1,117 @@
+-- `ground::generate` meets its contract. Assumes nothing.
+use borrow.Author.Needs.{needs}
+use mathlib.Core.Path.{_≡_, sym, ap, ap₂, _∙_, subst}
+use Prim.Native.Nat.{ℕ}
+use native.Mathlib.Omega.{arith}
+use mathlib.Core.List.{List, []}
+use lib.IntN.{pos}
+use lib.ListN.{length}
+use borrow.Author.Tests.{eq-eqb, ne-eqb}
+use Rattle.grid.specs.Cube.{Cube}
+use Rattle.grid.specs.Count.{nonAirCount, count-most}
+use Rattle.grid.specs.Grid.{cube-most}
+use Rattle.terrain.specs.World.{Tall, Near}
+use Rattle.terrain.specs.declared.world.Frame.{Frame}
+use Rattle.ground.specs.Ground.{groundIn, worldOf, frameOf, ground, generateRefusal, accepted, refused, outcome, generateDoes}
+use Rattle.ground.specs.Facts.{Sound, sound, tall-of, near-of}
+use Rattle.ground.proofs.generate.Statement.{statement}
+use Rattle.ground.proofs.generate.Tie as tie
+
+refusal-of-requires : tie.Need-refusal-of-requires
+refusal-of-requires c κs = search needs
+
+returns : tie.Need-returns
+unfolding generateDoes
+returns c =
+    let a = c .before .before .before .args in
+    let s = a .config in
+    let p = a .pos in
+    let cs = a .cells .now in
+    let e : c .before .refusal-of .result ≡ generateRefusal s p (length cs) = c .before .refusal-of .ensures in
+    rw (ne-eqb (generateRefusal s p (length cs)) 0 (λ h. c .if1 .taken (e ∙ h))) (ap (λ (k : ℕ). outcome (refused k 0) cs) e)
+
+world-of-requires : tie.Need-world-of-requires
+world-of-requires c κs =
+    let a = c .before .before .before .args in
+    let s = a .config in
+    let p = a .pos in
+    let cs = a .cells .now in
+    let e : c .before .refusal-of .result ≡ generateRefusal s p (length cs) = c .before .refusal-of .ensures in
+    let z : generateRefusal s p (length cs) ≡ 0 = sym e ∙ c .if1 .left in
+    let q : Sound s p (length cs) = sound s p (length cs) z in
+    (q .within .height, q .within .sea)
+
+frame-of-requires : tie.Need-frame-of-requires
+frame-of-requires c κs =
+    let a = c .before .before .before .before .args in
+    let s = a .config in
+    let p = a .pos in
+    let cs = a .cells .now in
+    let e : c .before .before .refusal-of .result ≡ generateRefusal s p (length cs) = c .before .before .refusal-of .ensures in
+    let z : generateRefusal s p (length cs) ≡ 0 = sym e ∙ c .before .if1 .left in
+    let q : Sound s p (length cs) = sound s p (length cs) z in
+    q .within
+
+lay-requires : tie.Need-lay-requires
+unfolding frameOf
+lay-requires c κs =
+    let a = c .before .before .before .before .before .before .args in
+    let s = a .config in
+    let p = a .pos in
+    let cs = a .cells .now in
+    let e : c .before .before .before .before .refusal-of .result ≡ generateRefusal s p (length cs) = c .before .before .before .before .refusal-of .ensures in
+    let z : generateRefusal s p (length cs) ≡ 0 = sym e ∙ c .before .before .before .if1 .left in
+    let q : Sound s p (length cs) = sound s p (length cs) z in
+    (subst Tall (sym (c .before .before .world-of .ensures)) (tall-of s p (q .within)), subst Near (sym (c .before .frame-of .ensures)) (near-of s p (q .within)), subst (λ (o : Frame). Cube (o .size) cs) (sym (c .before .frame-of .ensures)) (record { most = q .within .most; all = q .all }))
+
+count-non-air-requires : tie.Need-count-non-air-requires
+count-non-air-requires c κs = search needs
+
+cast-t14 : tie.Need-cast-t14
+cast-t14 c =
+    let a = c .before .before .before .before .before .before .before .before .before .before .before .args in
+    let s = a .config in
+    let p = a .pos in
+    let cs = a .cells .now in
+    let e : c .before .before .before .before .before .before .before .before .before .refusal-of .result ≡ generateRefusal s p (length cs) = c .before .before .before .before .before .before .before .before .before .refusal-of .ensures in
+    let z : generateRefusal s p (length cs) ≡ 0 = sym e ∙ c .before .before .before .before .before .before .before .before .if1 .left in
+    let q : Sound s p (length cs) = sound s p (length cs) z in
+    let laid = c .before .before .before .before .lay .last .1 .1 .0 in
+    let l : length laid ≡ length cs = c .before .before .before .before .lay .kept .1 .1 .0 in
+    let k : c .count-non-air .result ≡ nonAirCount laid = c .count-non-air .ensures in
+    let most = count-most laid in
+    let cube = cube-most (s .«chunk_size») (q .within .most) in
+    let all = q .all in
+    record { fits = omega arith }
+
+same-length : tie.Need-same-length
+same-length c = search needs
+
+returns-2 : tie.Need-returns-2
+unfolding generateDoes ground
+returns-2 c =
+    let a = c .before .before .before .before .before .before .before .before .before .before .before .args in
+    let s = a .config in
+    let p = a .pos in
+    let cs = a .cells .now in
+    let e : c .before .before .before .before .before .before .before .before .before .refusal-of .result ≡ generateRefusal s p (length cs) = c .before .before .before .before .before .before .before .before .before .refusal-of .ensures in
+    let z : generateRefusal s p (length cs) ≡ 0 = sym e ∙ c .before .before .before .before .before .before .before .before .if1 .left in
+    let q : Sound s p (length cs) = sound s p (length cs) z in
+    let laid = c .before .before .before .before .lay .last .1 .1 .0 in
+    let g : laid ≡ groundIn (worldOf s) (frameOf s p) = c .before .before .before .before .lay .ensures ∙ ap₂ groundIn (c .before .before .before .before .before .before .before .world-of .ensures) (c .before .before .before .before .before .before .frame-of .ensures) in
+    rw (eq-eqb (generateRefusal s p (length cs)) 0 z)
+    (ap (λ (k : ℕ). outcome (accepted k) laid) (c .count-non-air .ensures) ∙ ap (λ (d : List ℕ). outcome (accepted (nonAirCount d)) d) g)
+
+pub generate-spec : {M : Type 1} → statement M
+generate-spec =
+    tie.close
+    (tie.spec
+    refusal-of-requires
+    returns
+    world-of-requires
+    frame-of-requires
+    lay-requires
+    count-non-air-requires
+    cast-t14
+    same-length
+    returns-2)

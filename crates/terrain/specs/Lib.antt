@@ -1,0 +1,5 @@
+pub mod Blocks
+pub mod Caves
+pub mod World
+pub mod Base
+pub mod Laws

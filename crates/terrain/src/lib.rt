@@ -1,0 +1,4 @@
+pub mod base;
+pub mod block;
+pub mod cave;
+pub mod world;
