@@ -1,0 +1,4 @@
+pub mod Replies
+pub mod Tests
+pub mod Calls
+pub mod Moves

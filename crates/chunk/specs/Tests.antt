@@ -1,0 +1,128 @@
+-- The refusals of calls on bare cells, and what holds where none answers. Assumes nothing.
+use mathlib.Core.Path.{_≡_, refl, sym, _∙_, subst}
+use Prim.Native.Nat.{ℕ, _+_, _-_, _*_, _≤_, _<_}
+use native.Mathlib.Omega.{arith}
+use mathlib.Core.Bool.{Bool, true, false, _&&_}
+use mathlib.Core.List.{List, [], _∷_}
+use lib.Dec.{T, ltb, leb, eqb}
+use lib.ListN.{length}
+use borrow.Author.Tests.{leb-true, eqb-true, ltb-true}
+use Rattle.grid.specs.Cube.{Cube, cellIndex, inside}
+use Rattle.grid.specs.Grid.{index-lt, cube-most}
+use Rattle.config.specs.Refusals.{must, passed, refusal, refusal-zero, passed-zero, passed-on, passed-stop, refusal-none, refusal-pass, refusal-stop}
+
+-- 01, Settings: "size 1 to 64"
+abbrev pub sizeOk : ℕ → Bool
+sizeOk size = leb 1 size && leb size 64
+
+-- 01, Refused because of the input: "1 size." "6 cell slice .. not size³ long."
+unfoldable pub chunkRefusal : ℕ → ℕ → ℕ
+chunkRefusal size n = refusal (must (sizeOk size) 1 ∷ must (eqb n (size * size * size)) 6 ∷ [])
+
+-- "7 cell outside, in set or get."
+unfoldable pub cellRefusal : ℕ → ℕ → ℕ → ℕ → ℕ → ℕ
+cellRefusal size n x y z = refusal (passed (chunkRefusal size n) ∷ must (inside size x y z) 7 ∷ [])
+
+-- "6 cell slice, or the one that replaces it, not size³ long."
+unfoldable pub replaceRefusal : ℕ → ℕ → ℕ → ℕ
+replaceRefusal size n m = refusal (passed (chunkRefusal size n) ∷ must (eqb m (size * size * size)) 6 ∷ [])
+
+-- 01, Refused because of the state: "a count above size³, or one that the edit as a whole would move outside 0 to size³"
+unfoldable pub countOk : ℕ → ℕ → ℕ → ℕ → Bool
+countOk size count before after =
+    leb count (size * size * size)
+    && (leb before (count + after) && leb (count + after - before) (size * size * size))
+
+unfoldable pub countRefusal : ℕ → ℕ → ℕ → ℕ → ℕ
+countRefusal size count before after = refusal (must (countOk size count before after) 21 ∷ [])
+
+-- ---- how a test after those of the chunk answers
+
+pub then-chunk : (size n : ℕ) (b : Bool) (k : ℕ) → (chunkRefusal size n ≡ 0 → ⊥) → refusal (passed (chunkRefusal size n) ∷ must b k ∷ []) ≡ chunkRefusal size n
+then-chunk size n b k e = passed-stop (chunkRefusal size n) (must b k ∷ []) e
+
+pub then-stop : (size n : ℕ) (b : Bool) (k : ℕ) → chunkRefusal size n ≡ 0 → b ≡ false → refusal (passed (chunkRefusal size n) ∷ must b k ∷ []) ≡ k
+then-stop size n b k e f = passed-on (chunkRefusal size n) (must b k ∷ []) e ∙ refusal-stop b k [] f
+
+pub then-pass : (size n : ℕ) (b : Bool) (k : ℕ) → chunkRefusal size n ≡ 0 → b ≡ true → refusal (passed (chunkRefusal size n) ∷ must b k ∷ []) ≡ 0
+then-pass size n b k e f = passed-on (chunkRefusal size n) (must b k ∷ []) e ∙ refusal-pass b k [] f ∙ refusal-none
+
+-- ---- what holds where none of them answers
+
+both-true : (a b : Bool) → a && b ≡ true → (a ≡ true) × (b ≡ true)
+both-true true b e = (refl, e)
+both-true false b e = absurd (subst T (sym e) tt)
+
+pub record Chunk (size n : ℕ) : Type 0 where
+  pub least : 1 ≤ size
+  pub most : size ≤ 64
+  pub all : n ≡ size * size * size
+
+pub chunk-passed : (size n : ℕ) → chunkRefusal size n ≡ 0 → Chunk size n
+unfolding chunkRefusal
+chunk-passed size n e =
+    let p = refusal-zero (sizeOk size) 0 (must (eqb n (size * size * size)) 6 ∷ []) e in
+    let q = refusal-zero (eqb n (size * size * size)) 5 [] (p .1) in
+    let s = both-true (leb 1 size) (leb size 64) (p .0) in
+    record { least = leb-true 1 size (s .0); most = leb-true size 64 (s .1); all = eqb-true n (size * size * size) (q .0) }
+
+pub cube-of : (size : ℕ) (c : List ℕ) → Chunk size (length c) → Cube size c
+cube-of size c h = record { most = h .most; all = h .all }
+
+pub record Inside (size x y z : ℕ) : Type 0 where
+  pub x-in : x < size
+  pub y-in : y < size
+  pub z-in : z < size
+
+pub inside-true : (size x y z : ℕ) → inside size x y z ≡ true → Inside size x y z
+unfolding inside
+inside-true size x y z e = at (ltb x size) refl (ltb y size) refl (ltb z size) refl e
+  where
+    at : (a : Bool) → ltb x size ≡ a → (b : Bool) → ltb y size ≡ b → (d : Bool) → ltb z size ≡ d → mathlib.Core.Bool.cond a (mathlib.Core.Bool.cond b d false) false ≡ true → Inside size x y z
+    at true p true q true r e = record { x-in = ltb-true x size p; y-in = ltb-true y size q; z-in = ltb-true z size r }
+    at true p true q false r e = absurd (subst T (sym e) tt)
+    at true p false q d r e = absurd (subst T (sym e) tt)
+    at false p b q d r e = absurd (subst T (sym e) tt)
+
+pub record CellOk (size n x y z : ℕ) : Type 0 where
+  pub chunk : Chunk size n
+  pub cell : Inside size x y z
+
+pub cell-passed : (size n x y z : ℕ) → cellRefusal size n x y z ≡ 0 → CellOk size n x y z
+unfolding cellRefusal
+cell-passed size n x y z e =
+    let p = passed-zero (chunkRefusal size n) (must (inside size x y z) 7 ∷ []) e in
+    let q = refusal-zero (inside size x y z) 6 [] (p .1) in
+    record { chunk = chunk-passed size n (p .0); cell = inside-true size x y z (q .0) }
+
+-- a cell's place in the slice
+pub cell-at : (size n x y z : ℕ) → CellOk size n x y z → cellIndex size x y z < n
+cell-at size n x y z h =
+    let l = index-lt size x y z (h .cell .x-in) (h .cell .y-in) (h .cell .z-in) in let e = h .chunk .all in omega arith
+
+pub chunk-most : (size n : ℕ) → Chunk size n → n ≤ 262144
+chunk-most size n h = let l = cube-most size (h .most) in let e = h .all in omega arith
+
+pub record ReplaceOk (size n m : ℕ) : Type 0 where
+  pub chunk : Chunk size n
+  pub new : m ≡ size * size * size
+
+pub replace-passed : (size n m : ℕ) → replaceRefusal size n m ≡ 0 → ReplaceOk size n m
+unfolding replaceRefusal
+replace-passed size n m e =
+    let p = passed-zero (chunkRefusal size n) (must (eqb m (size * size * size)) 6 ∷ []) e in
+    let q = refusal-zero (eqb m (size * size * size)) 5 [] (p .1) in
+    record { chunk = chunk-passed size n (p .0); new = eqb-true m (size * size * size) (q .0) }
+
+pub record CountOk (size count before after : ℕ) : Type 0 where
+  pub held : count ≤ size * size * size
+  pub low : before ≤ count + after
+  pub high : count + after - before ≤ size * size * size
+
+pub count-passed : (size count before after : ℕ) → countRefusal size count before after ≡ 0 → CountOk size count before after
+unfolding countRefusal countOk
+count-passed size count before after e =
+    let p = refusal-zero (countOk size count before after) 20 [] e in
+    let q = both-true (leb count (size * size * size)) (leb before (count + after) && leb (count + after - before) (size * size * size)) (p .0) in
+    let r = both-true (leb before (count + after)) (leb (count + after - before) (size * size * size)) (q .1) in
+    record { held = leb-true _ _ (q .0); low = leb-true _ _ (r .0); high = leb-true _ _ (r .1) }

@@ -1,0 +1,4 @@
+pub mod Laid
+pub mod Net
+pub mod Replies
+pub mod Calls

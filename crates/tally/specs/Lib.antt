@@ -1,0 +1,4 @@
+pub mod Ids
+pub mod Spans
+pub mod Tally
+pub mod Lists
