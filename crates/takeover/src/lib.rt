@@ -1,0 +1,1 @@
+// The takeover theorem over calls as they were made: specs/ is all there is.
