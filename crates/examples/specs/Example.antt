@@ -1,0 +1,34 @@
+-- What an example is: what a definition gives at some arguments, and the value that 01 names. Assumes nothing.
+use mathlib.Core.Path.{_≡_}
+use mathlib.Core.List.{List, [], _∷_, _++_}
+use Prim.Native.Nat.{ℕ}
+use lib.IntN.{ℤ}
+use lib.Ieee.{Float}
+
+-- a case for each kind of value: an f32, an integer, a number (an id, a count, a radius, a refusal), bytes or ids in a row,
+-- and an integer that is the same for every column, sea level and seed offset
+pub data Example : Type 0 where
+  float : Float → Float → Example
+  integer : ℤ → ℤ → Example
+  number : ℕ → ℕ → Example
+  text : List ℕ → List ℕ → Example
+  everywhere : (ℤ → ℤ → ℤ → Float → ℤ) → ℤ → Example
+
+-- an example holds where the definition gives what 01 says
+abbrev pub holds : Example → Type 0
+holds (float a b) = a ≡ b
+holds (integer a b) = a ≡ b
+holds (number a b) = a ≡ b
+holds (text a b) = a ≡ b
+holds (everywhere f b) = (wx wz sea : ℤ) (offset : Float) → f wx wz sea offset ≡ b
+
+-- every entry of a table holds
+infixr 5 _and_
+pub data AllHold : List Example → Type 0 where
+  end : AllHold []
+  _and_ : {e : Example} {es : List Example} → holds e → AllHold es → AllHold (e ∷ es)
+
+-- a table may be proved in parts
+pub both : {xs ys : List Example} → AllHold xs → AllHold ys → AllHold (xs ++ ys)
+both end k = k
+both (h and hs) k = h and both hs k
