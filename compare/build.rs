@@ -1,0 +1,44 @@
+//! Links the product's static library, and says by `cfg` flags which parts it has.
+use std::{env, fs, path::Path};
+
+/// A part of the product, and the exported function that shows that it is there.
+const PARTS: [(&str, &str); 10] = [
+    ("has_ground", "pl_generate"),
+    ("has_chunk", "pl_fill_column"),
+    ("has_batch", "pl_set_blocks"),
+    ("has_border", "pl_extract_border"),
+    ("has_tally", "pl_tally"),
+    ("has_session", "pl_session_set"),
+    ("has_fresh", "pl_fresh"),
+    ("has_session_batch", "pl_session_batch"),
+    ("has_undo", "pl_undo"),
+    ("has_reopen", "pl_reopen"),
+];
+
+fn main() {
+    println!("cargo:rerun-if-env-changed=PRODUCT_LIB");
+    let file = env::var("PRODUCT_LIB").expect("PRODUCT_LIB names the product's archive");
+    println!("cargo:rerun-if-changed={file}");
+    let path = Path::new(&file);
+    let folder = path.parent().expect("the archive lies in a folder");
+    let stem = path
+        .file_stem()
+        .and_then(|s| s.to_str())
+        .expect("the archive has a name");
+    println!("cargo:rustc-link-search=native={}", folder.display());
+    println!("cargo:rustc-link-lib=static={}", stem.trim_start_matches("lib"));
+    let archive = fs::read(path).expect("the archive can be read");
+    for (flag, symbol) in PARTS {
+        println!("cargo:rustc-check-cfg=cfg({flag})");
+        if has(&archive, symbol.as_bytes()) {
+            println!("cargo:rustc-cfg={flag}");
+        }
+    }
+}
+
+/// Whether the archive names the symbol: its table of symbols has each name, ended by a zero.
+fn has(archive: &[u8], symbol: &[u8]) -> bool {
+    archive
+        .windows(symbol.len() + 1)
+        .any(|w| &w[..symbol.len()] == symbol && w[symbol.len()] == 0)
+}

@@ -1,0 +1,175 @@
+//! The calls on bare cells, written from 01's text: what each answers and how it leaves the cells.
+//! Where a call is one that the original takes, chunk.rs holds this model to the original too.
+use crate::ffi::{BatchReply, Reply};
+
+fn accepted(value: u32) -> Reply {
+    Reply { number: 0, value }
+}
+
+fn refused(number: u32) -> Reply {
+    Reply { number, value: 0 }
+}
+
+/// "1 size", "6 cell slice .. not size³ long": the number, or 0.
+fn shape(cells: &[u16], size: usize) -> u32 {
+    if !(1..=64).contains(&size) {
+        1
+    } else if cells.len() != size * size * size {
+        6
+    } else {
+        0
+    }
+}
+
+/// "Cell (x, y, z) is at x + y × size + z × size × size", or none outside the chunk.
+fn place(size: usize, [x, y, z]: [usize; 3]) -> Option<usize> {
+    (x < size && y < size && z < size).then(|| x + y * size + z * size * size)
+}
+
+/// "The non-air count is the number of nonzero cells."
+pub fn non_air(cells: &[u16]) -> usize {
+    cells.iter().filter(|&&id| id != 0).count()
+}
+
+pub fn get(cells: &[u16], size: usize, at: [usize; 3]) -> Reply {
+    match (shape(cells, size), place(size, at)) {
+        (0, Some(i)) => accepted(cells[i] as u32),
+        (0, None) => refused(7),
+        (number, _) => refused(number),
+    }
+}
+
+pub fn is_air(cells: &[u16], size: usize, at: [usize; 3]) -> Reply {
+    let found = get(cells, size, at);
+    if found.number != 0 {
+        return found;
+    }
+    accepted((found.value == 0) as u32)
+}
+
+/// Asks something of all cells.
+fn ask(cells: &[u16], size: usize, holds: impl Fn(u16) -> bool) -> Reply {
+    match shape(cells, size) {
+        0 => accepted(cells.iter().all(|&id| holds(id)) as u32),
+        number => refused(number),
+    }
+}
+
+pub fn is_empty(cells: &[u16], size: usize) -> Reply {
+    ask(cells, size, |id| id == 0)
+}
+
+pub fn is_solid(cells: &[u16], size: usize) -> Reply {
+    ask(cells, size, |id| id != 0)
+}
+
+/// "6 cell slice, or the one that replaces it, not size³ long."
+pub fn replace_blocks(cells: &mut [u16], size: usize, blocks: &[u16]) -> Reply {
+    match (shape(cells, size), shape(blocks, size)) {
+        (0, 0) => {
+            cells.copy_from_slice(blocks);
+            accepted(non_air(cells) as u32)
+        }
+        (0, number) | (number, _) => refused(number),
+    }
+}
+
+/// Lays an edit on as a whole, or refuses it with 21: "a count above size³, or one that the edit
+/// as a whole would move outside 0 to size³".
+fn edit(cells: &mut [u16], count: u32, writes: &[(usize, u16)]) -> Result<u32, u32> {
+    let mut after = cells.to_vec();
+    for &(i, id) in writes {
+        after[i] = id;
+    }
+    let most = cells.len() as i64;
+    let moved = count as i64 + non_air(&after) as i64 - non_air(cells) as i64;
+    if count as i64 > most || moved < 0 || moved > most {
+        return Err(21);
+    }
+    cells.copy_from_slice(&after);
+    Ok(moved as u32)
+}
+
+fn reply(done: Result<u32, u32>) -> Reply {
+    done.map_or_else(refused, accepted)
+}
+
+/// "tests 1, 6, 7 and then the count".
+pub fn set(cells: &mut [u16], size: usize, count: u32, at: [usize; 3], id: u16) -> Reply {
+    match (shape(cells, size), place(size, at)) {
+        (0, Some(i)) => reply(edit(cells, count, &[(i, id)])),
+        (0, None) => refused(7),
+        (number, _) => refused(number),
+    }
+}
+
+/// "A column clips its height to size; outside x or z it does nothing."
+pub fn fill_column(cells: &mut [u16], size: usize, count: u32, [x, z, height]: [usize; 3], id: u16) -> Reply {
+    match shape(cells, size) {
+        0 => {
+            let writes: Vec<_> = (0..height.min(size))
+                .filter_map(|y| place(size, [x, y, z]))
+                .map(|i| (i, id))
+                .collect();
+            reply(edit(cells, count, &writes))
+        }
+        number => refused(number),
+    }
+}
+
+/// "groups of four u32 (x, y, z, id), id modulo 65,536; one to three left over are ignored; groups
+/// outside are skipped; the answer is the number written."
+pub fn set_blocks(cells: &mut [u16], size: usize, count: u32, edits: &[u32]) -> BatchReply {
+    let number = shape(cells, size);
+    if number != 0 {
+        return BatchReply {
+            number,
+            count: 0,
+            written: 0,
+        };
+    }
+    let writes: Vec<_> = edits
+        .chunks_exact(4)
+        .filter_map(|g| {
+            place(size, [g[0] as usize, g[1] as usize, g[2] as usize]).map(|i| (i, (g[3] % 65_536) as u16))
+        })
+        .collect();
+    match edit(cells, count, &writes) {
+        Ok(count) => BatchReply {
+            number: 0,
+            count,
+            written: writes.len(),
+        },
+        Err(number) => BatchReply {
+            number,
+            count: 0,
+            written: 0,
+        },
+    }
+}
+
+/// The ids present with their numbers of cells, ascending; 01 leaves the order free.
+pub fn tally(cells: &[u16]) -> Vec<(u16, u32)> {
+    let mut found = std::collections::BTreeMap::new();
+    for &id in cells.iter().filter(|&&id| id != 0) {
+        *found.entry(id).or_insert(0) += 1;
+    }
+    found.into_iter().collect()
+}
+
+/// The refusal of a tally, 0 for none: 1, 6, then "13 tally lists shorter than the ids present".
+pub fn tally_refusal(cells: &[u16], size: usize, ids: usize, counts: usize) -> u32 {
+    let present = tally(cells).len();
+    match shape(cells, size) {
+        0 if ids < present || counts < present => 13,
+        number => number,
+    }
+}
+
+/// The refusal of a border, 0 for none: 1, 6, and 6 again where the border is not size² long.
+pub fn border_refusal(cells: &[u16], size: usize, border: usize) -> u32 {
+    match shape(cells, size) {
+        0 if border != size * size => 6,
+        number => number,
+    }
+}

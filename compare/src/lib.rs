@@ -1,0 +1,14 @@
+//! Compares the product's static library with the Rust original, and times both.
+pub mod bare;
+pub mod chunk;
+pub mod ffi;
+pub mod ground;
+pub mod journals;
+pub mod model;
+pub mod noise;
+pub mod program;
+pub mod report;
+pub mod rng;
+pub mod seen;
+pub mod session;
+pub mod vectors;

@@ -1,0 +1,61 @@
+//! Counts comparisons and differences, and shows the first few differences.
+
+/// How many differences are printed in full.
+const SHOWN: u64 = 10;
+
+#[derive(Default)]
+pub struct Report {
+    pub comparisons: u64,
+    pub differences: u64,
+    missing: Vec<String>,
+    quiet: bool,
+}
+
+impl Report {
+    /// A report that prints no difference, only counts.
+    pub fn quiet() -> Self {
+        Report {
+            quiet: true,
+            ..Report::default()
+        }
+    }
+
+    /// One comparison. `text` says what was compared, and is made only for a difference.
+    pub fn same(&mut self, equal: bool, text: impl FnOnce() -> String) {
+        self.comparisons += 1;
+        if !equal {
+            self.differences += 1;
+            if self.differences <= SHOWN && !self.quiet {
+                println!("difference: {}", text());
+            }
+        }
+    }
+
+    /// A failure that is no comparison, as a kind of chunk that was never met.
+    pub fn fail(&mut self, text: String) {
+        self.differences += 1;
+        if !self.quiet {
+            println!("difference: {text}");
+        }
+    }
+
+    /// Notes a part that the library does not have yet.
+    pub fn absent(&mut self, part: &str) {
+        self.missing.push(part.to_string());
+    }
+
+    /// The last line of a run, and whether all was equal.
+    pub fn close(&self) -> bool {
+        if !self.missing.is_empty() {
+            println!(
+                "not compared, as the library lacks it: {}",
+                self.missing.join(", ")
+            );
+        }
+        println!(
+            "compare: {} comparisons, {} differences",
+            self.comparisons, self.differences
+        );
+        self.differences == 0
+    }
+}

@@ -1,0 +1,415 @@
+//! Sessions, reopening and the plain machine: any library of these calls against model.rs. The
+//! calls are a trait, so that the tests can run the driver on the model itself and on broken ones.
+use crate::chunk::STALE;
+use crate::ffi::Site;
+use crate::journals;
+use crate::model::{self, Call, Lent, Machine, Record, Refusal, Reopened};
+use crate::report::Report;
+use crate::rng::Rng;
+
+/// The parts of a session that a library can lack for now.
+#[derive(Clone, Copy, Debug, PartialEq)]
+pub enum Part {
+    Fresh,
+    Batch,
+    Undo,
+    Reopening,
+}
+
+/// The calls of a library. Each changes what is lent to it, as the library would.
+pub trait Calls {
+    /// Whether the library lacks a part: the model then stands in for it, and is not compared.
+    fn lacks(&self, _part: Part) -> bool {
+        false
+    }
+    fn fresh(&self, site: &Site, cells: &mut [u16], journal: &mut [u8]) -> Result<Record, u32>;
+    /// The record after the call, and how many groups a batch wrote; or the refusal's number and
+    /// the record that came back with it.
+    fn call(&self, lent: &mut Lent, call: &Call) -> Result<usize, u32>;
+    fn reopen(
+        &self,
+        journal: &[u8],
+        held: usize,
+        cells: &mut [u16],
+    ) -> Result<(Record, usize, usize), Refusal>;
+    fn counted(&self, journal: &[u8], held: usize) -> usize;
+}
+
+/// How much a run does.
+pub struct Amount {
+    pub journals: u64,
+    pub sessions: u64,
+    pub cut_sessions: u64,
+    pub hostile: u64,
+}
+
+pub const FULL: Amount = Amount {
+    journals: 120_000,
+    sessions: 4000,
+    cut_sessions: 220,
+    hostile: 120_000,
+};
+
+/// Reopens a journal on both sides: answer, record, lines, loose bytes and cells.
+fn reopening(report: &mut Report, calls: &impl Calls, journal: &[u8], held: usize, cells: usize) {
+    if calls.lacks(Part::Reopening) {
+        return;
+    }
+    let mut ours = vec![STALE; cells];
+    let answer = calls.reopen(journal, held, &mut ours);
+    let wanted = model::reopen(journal, held, cells);
+    let same = match (&answer, &wanted) {
+        (Ok((record, lines, loose)), Ok(w)) => {
+            *w == Reopened {
+                record: *record,
+                lines: *lines,
+                loose: *loose,
+                cells: ours.clone(),
+            }
+        }
+        (Err(a), Err(b)) => a == b && ours.iter().all(|&c| c == STALE),
+        _ => false,
+    };
+    report.same(same, || {
+        let text = String::from_utf8_lossy(&journal[..journal.len().min(300)]).into_owned();
+        let said = wanted.map(|w| (w.record, w.lines, w.loose));
+        format!("reopening {text:?}, {held} held, {cells} cells: wanted {said:?}, product {answer:?}")
+    });
+    let part = model::counted(journal, held).len();
+    let got = calls.counted(journal, held);
+    report.same(got == part, || {
+        format!(
+            "the part that counts of {} bytes, {held} held: wanted {part}, product {got}",
+            journal.len()
+        )
+    });
+}
+
+/// The number of cells to lend for a journal: mostly right for the size that its first line names.
+fn cells_for(rng: &mut Rng, journal: &[u8]) -> usize {
+    let right = model::first_size(journal).unwrap_or(2).clamp(1, 16).pow(3);
+    if rng.once_in(30) {
+        rng.pick(&[right + 1, right - 1, 0, 4096])
+    } else {
+        right
+    }
+}
+
+/// Valid and damaged journals. A refusal that was never met is a failure.
+fn journals(report: &mut Report, rng: &mut Rng, calls: &impl Calls, many: u64) {
+    if calls.lacks(Part::Reopening) {
+        return;
+    }
+    let mut met = std::collections::BTreeMap::new();
+    for _ in 0..many {
+        let (journal, held) = journals::journal(rng);
+        let cells = cells_for(rng, &journal);
+        let number = model::reopen(&journal, held, cells).map_or_else(|r| r.number, |_| 0);
+        *met.entry(number).or_insert(0u64) += 1;
+        reopening(report, calls, &journal, held, cells);
+    }
+    println!("journals: {many}, by refusal (0: accepted) {met:?}");
+    for number in [0, 1, 2, 3, 4, 5, 6, 9, 10, 11, 12] {
+        if many >= 10_000 && !met.contains_key(&number) {
+            report.fail(format!("no journal met {number}"));
+        }
+    }
+}
+
+/// A fresh session on both sides, in a journal of this length.
+fn started(
+    report: &mut Report,
+    calls: &impl Calls,
+    site: &Site,
+    cells: usize,
+    length: usize,
+) -> Option<Lent> {
+    let (mut ours, mut journal) = (vec![STALE; cells], vec![b'?'; length]);
+    let wanted = model::fresh(site, &ours, &journal);
+    if calls.lacks(Part::Fresh) {
+        return wanted.ok();
+    }
+    let answer = calls.fresh(site, &mut ours, &mut journal);
+    let kept = (vec![STALE; cells], vec![b'?'; length]);
+    let same = match (&answer, &wanted) {
+        (Ok(record), Ok(w)) => {
+            *w == Lent {
+                record: *record,
+                cells: ours,
+                journal,
+            }
+        }
+        (Err(a), Err(b)) => a == b && (ours, journal) == kept,
+        _ => false,
+    };
+    report.same(same, || {
+        format!(
+            "fresh {site:?}, {cells} cells, journal of {length}: wanted {:?}, product {answer:?}",
+            wanted.as_ref().map(|w| w.record)
+        )
+    });
+    wanted.ok()
+}
+
+/// One call on both sides. Answers what the model leaves.
+fn called(report: &mut Report, calls: &impl Calls, lent: &Lent, call: &Call) -> (Lent, u32) {
+    let wanted = model::call(lent, call);
+    let mut ours = lent.clone();
+    let absent = match call {
+        Call::Batch(_) => calls.lacks(Part::Batch),
+        Call::Undo => calls.lacks(Part::Undo),
+        _ => false,
+    };
+    if absent {
+        return wanted.map_or_else(|number| (ours, number), |(next, _)| (next, 0));
+    }
+    let answer = calls.call(&mut ours, call);
+    let (left, said) = match wanted {
+        Ok((next, written)) => (next, Ok(written)),
+        Err(number) => (lent.clone(), Err(number)),
+    };
+    report.same(answer == said && ours == left, || {
+        format!(
+            "{call:?} on {:?}: wanted {said:?} and {:?}, product {answer:?} and {:?}",
+            lent.record, left.record, ours.record
+        )
+    });
+    (left, said.err().unwrap_or(0))
+}
+
+/// A session of random calls, held to the plain machine after each. Answers the machine and the
+/// session as it ended.
+fn session(
+    report: &mut Report,
+    rng: &mut Rng,
+    calls: &impl Calls,
+    many: u64,
+) -> Option<(Machine, Lent, Vec<Lent>)> {
+    let site = journals::site(rng);
+    let length = rng.pick(&[60, 120, 400, 2000, 32_768]);
+    let mut lent = started(report, calls, &site, site.chunk_size.pow(3), length)?;
+    let mut machine = Machine::new(site, length);
+    let mut states = vec![lent.clone()];
+    for _ in 0..many {
+        let call = journals::call(rng, site.chunk_size);
+        let (left, number) = called(report, calls, &lent, &call);
+        let refused = machine.call(&call);
+        lent = left;
+        let r = &lent.record;
+        let same = number == refused
+            && lent.cells == machine.cells()
+            && lent.journal.get(..r.used) == Some(&machine.bytes[..])
+            && r.standing == machine.standing.len()
+            && r.count as usize == crate::bare::non_air(&lent.cells);
+        report.same(same, || {
+            format!("{call:?}: the session is not the plain machine, {number} against {refused}")
+        });
+        states.push(lent.clone());
+    }
+    Some((machine, lent, states))
+}
+
+/// A session cut at every byte, with tails of zeros: the reopened one has the cells, count, used
+/// bytes and standing edits of the first one after the last call whose line stands whole, and goes
+/// on with the same answers.
+fn cuts(report: &mut Report, rng: &mut Rng, calls: &impl Calls, states: &[Lent]) {
+    let last = states.last().expect("a session has a state");
+    for q in 0..=last.record.used {
+        let tail = rng.below(1 + (last.journal.len() - q).min(40) as u64) as usize;
+        let mut journal = last.journal[..q].to_vec();
+        journal.extend(vec![0; tail]);
+        journal.resize(last.journal.len(), b'U');
+        reopening(report, calls, &journal, q + tail, last.cells.len());
+        let whole = states.iter().rev().find(|s| s.record.used <= q);
+        let mut cells = vec![STALE; last.cells.len()];
+        let answer = calls.reopen(&journal, q + tail, &mut cells);
+        let same = match (&answer, whole) {
+            (Ok((record, _, _)), Some(s)) => *record == s.record && cells == s.cells,
+            (Err(r), None) => *r == model::refusal(10),
+            _ => false,
+        };
+        report.same(same, || {
+            format!("cut at {q}: the reopened session is not the first one, {answer:?}")
+        });
+        if let (Ok((record, _, _)), Some(first), true) = (answer, whole, rng.once_in(8)) {
+            go_on(
+                report,
+                rng,
+                calls,
+                Lent {
+                    record,
+                    cells,
+                    journal,
+                },
+                first.clone(),
+            );
+        }
+    }
+}
+
+/// Further calls on the reopened and on the first session: same answers, cells and used bytes.
+fn go_on(report: &mut Report, rng: &mut Rng, calls: &impl Calls, mut second: Lent, mut first: Lent) {
+    for _ in 0..6 {
+        let call = journals::call(rng, first.record.site.chunk_size);
+        let (a, b) = (calls.call(&mut first, &call), calls.call(&mut second, &call));
+        let used = first.record.used;
+        let same = a == b
+            && first.record == second.record
+            && first.cells == second.cells
+            && first.journal.get(..used) == second.journal.get(..used);
+        report.same(same, || {
+            format!("{call:?} after a reopening: {a:?} against {b:?}")
+        });
+    }
+}
+
+/// A number at an end of its type, near a limit or a small one.
+fn wild(rng: &mut Rng) -> i64 {
+    rng.pick(&[
+        0,
+        1,
+        -1,
+        64,
+        65,
+        256,
+        257,
+        4096,
+        4097,
+        -4096,
+        -4097,
+        65_535,
+        65_536,
+        i32::MAX as i64,
+        i32::MIN as i64,
+    ])
+}
+
+/// A record, cells and journal that need not belong together.
+fn spoil(rng: &mut Rng, lent: &mut Lent) {
+    let r = &mut lent.record;
+    match rng.below(14) {
+        0 => r.site.seed = wild(rng) as u32,
+        1 => r.site.sea_level = wild(rng) as i32,
+        2 => r.site.world_height_blocks = wild(rng) as i32,
+        3 => r.site.chunk_size = rng.pick(&[0, 1, 2, 3, 64, 65, usize::MAX, 1 << 32]),
+        4 => r.site.cx = wild(rng) as i32,
+        5 => r.site.cz = rng.pick(&[i32::MAX, i32::MIN, 1_000_000, -1_000_000, 1_000_001, 7]),
+        6 => {
+            r.count = rng.pick(&[
+                0,
+                1,
+                r.count + 1,
+                r.count.wrapping_sub(1),
+                u32::MAX,
+                lent.cells.len() as u32,
+                lent.cells.len() as u32 + 1,
+            ])
+        }
+        7 => {
+            r.used = rng.pick(&[
+                0,
+                1,
+                r.used - 1,
+                r.used + 1,
+                lent.journal.len(),
+                lent.journal.len() + 1,
+                usize::MAX,
+            ])
+        }
+        8 => r.standing = rng.pick(&[0, 1, r.standing + 1, 255, 256, 257, usize::MAX]),
+        9 => lent.cells.iter_mut().for_each(|c| *c = rng.below(2) as u16),
+        10 => drop(lent.cells.pop()),
+        11 => lent.journal.resize(rng.pick(&[0, 1, 40, 32_768, 32_769]), b'U'),
+        12 => {
+            let i = rng.below(lent.journal.len().max(1) as u64) as usize;
+            if let Some(b) = lent.journal.get_mut(i) {
+                *b = rng.pick(b"\n\tGSCBU0123-");
+            }
+        }
+        _ => {}
+    }
+}
+
+/// Calls on records that no session made.
+fn hostile(report: &mut Report, rng: &mut Rng, calls: &impl Calls, many: u64) {
+    let mut met = std::collections::BTreeMap::new();
+    let mut done = 0;
+    while done < many {
+        let mut quiet = Report::quiet();
+        let turns = rng.below(12);
+        let Some((_, lent, _)) = session(&mut quiet, rng, calls, turns) else {
+            continue;
+        };
+        for _ in 0..20 {
+            let mut bad = lent.clone();
+            for _ in 0..rng.range(1, 2) {
+                spoil(rng, &mut bad);
+            }
+            let call = journals::call(rng, lent.record.site.chunk_size);
+            let (_, number) = called(report, calls, &bad, &call);
+            *met.entry(number).or_insert(0u64) += 1;
+            done += 1;
+        }
+    }
+    println!("hostile records: {done} calls, by refusal (0: accepted) {met:?}");
+}
+
+/// Fresh sessions at and around each limit.
+fn fresh_limits(report: &mut Report, rng: &mut Rng, calls: &impl Calls) {
+    for _ in 0..4000 {
+        let site = journals::site(rng);
+        let record = Record {
+            site,
+            count: 1,
+            used: 1,
+            standing: 1,
+        };
+        let mut lent = Lent {
+            record,
+            cells: vec![0; site.chunk_size.pow(3)],
+            journal: vec![0; 60],
+        };
+        spoil(rng, &mut lent);
+        let line = model::header(&lent.record.site).len() + 1;
+        let length = rng.pick(&[line, line - 1, line + 1, 0, 60, 32_768, 32_769]);
+        started(report, calls, &lent.record.site, lent.cells.len(), length);
+    }
+}
+
+/// All of it on one library.
+pub fn compare(report: &mut Report, calls: &impl Calls, amount: &Amount) {
+    let before = report.comparisons;
+    let mut rng = Rng::new(8);
+    journals(report, &mut rng, calls, amount.journals);
+    fresh_limits(report, &mut rng, calls);
+    for _ in 0..amount.sessions {
+        let turns = if rng.once_in(50) { 400 } else { rng.below(40) };
+        session(report, &mut rng, calls, turns);
+    }
+    let mut cut = 0;
+    while cut < amount.cut_sessions && !calls.lacks(Part::Reopening) {
+        let turns = rng.below(14);
+        if let Some((_, _, states)) = session(report, &mut rng, calls, turns) {
+            cuts(report, &mut rng, calls, &states);
+            cut += 1;
+        }
+    }
+    hostile(report, &mut rng, calls, amount.hostile);
+    for part in [Part::Fresh, Part::Batch, Part::Undo, Part::Reopening] {
+        if calls.lacks(part) {
+            report.absent(&format!("session: {part:?}"));
+        }
+    }
+    println!(
+        "sessions: {} comparisons, {cut} sessions cut at every byte",
+        report.comparisons - before
+    );
+}
+
+/// The product, where the library has its session.
+pub fn run(report: &mut Report) {
+    #[cfg(has_session)]
+    compare(report, &crate::ffi::session::Product, &FULL);
+    #[cfg(not(has_session))]
+    report.absent("sessions and journals");
+}
