@@ -1,2 +1,3 @@
 pub mod Contracts
 pub mod Theorem
+pub mod Accepted
