@@ -1,11 +1,13 @@
 // The ground before boulders and trees: the column pass and the first pass of terrain.rs.
 ghost use mathlib.Core.Path.{_≡_};
 ghost use mathlib.Core.List.{_++_};
-ghost use Prim.Native.Nat.{_*_, _≤_, _<_};
+ghost use Prim.Native.Nat.{_+_, _*_, _≤_, _<_};
+ghost use lib.IntN.{pos, _+ℤ_};
 ghost use lib.ListN.{length, drop};
-ghost use Rattle.grid.specs.Cube.{Cube, tab, colOf};
-ghost use Rattle.terrain.specs.World.{Tall, Near};
-ghost use Rattle.terrain.specs.Base.{baseNumbered, baseCells, columnHeight, columnBiome, Noted};
+ghost use Rattle.grid.specs.Cube.{Cube, tab};
+ghost use Rattle.terrain.specs.World.{Tall, Near, topAt, baseCell};
+ghost use Rattle.terrain.specs.Base.{baseCells, columnHeight, columnBiome, Noted};
+ghost use Rattle.terrain.specs.Rows.{Laid};
 use crate::world::Frame;
 use crate::world::Top;
 use crate::world::World;
@@ -40,31 +42,46 @@ pub fn note_tops(w: World, o: Frame, heights: &mut [u16], biomes: &mut [u8])
     }
 }
 
-fn base_cell(w: World, o: Frame, t: Top, i: usize) -> u16
-    requires { ⌜ Tall w × Near o × (i < o .size * o .size * o .size) × (t .height ≡ columnHeight w o (colOf (o .size) i)) × (t .biome ≡ columnBiome w o (colOf (o .size) i)) ⌝ }
-    ensures { λ r. ⌜ r ≡ baseNumbered w o i ⌝ }
+// The cell at x, y, z of the chunk, under its column's top.
+fn base_cell(w: World, o: Frame, t: Top, x: usize, y: usize, z: usize) -> u16
+    requires { ⌜ Tall w × Near o × (x < o .size) × (y < o .size) × (z < o .size) × (t ≡ topAt w (o .ox +ℤ pos x) (o .oz +ℤ pos z)) ⌝ }
+    ensures { λ r. ⌜ r ≡ baseCell w (o .ox +ℤ pos x) (o .oy +ℤ pos y) (o .oz +ℤ pos z) ⌝ }
 {
-    let size = o.size;
-    let wx = along(o.ox, i % size);
-    let wy = along(o.oy, i / size % size);
-    let wz = along(o.oz, i / size / size);
+    let wx = along(o.ox, x);
+    let wy = along(o.oy, y);
+    let wz = along(o.oz, z);
     cell(t, w.sea_level, wx, wy, wz)
 }
 
-// Lays every cell, by the tops that the caches hold.
-pub fn lay_base(w: World, o: Frame, heights: &[u16], biomes: &[u8], cells: &mut [u16])
-    requires { ⌜ Tall w × Near o × Noted w o (now heights) (now biomes) × Cube (o .size) (now cells) ⌝ }
-    ensures { λ _. ⌜ now (cells .exit) ≡ baseCells w o ⌝ }
+// Lays row j, by the tops that the caches hold: two divisions for a row, none for a cell.
+fn lay_row(w: World, o: Frame, heights: &[u16], biomes: &[u8], cells: &mut [u16], j: usize)
+    requires { ⌜ Tall w × Near o × Noted w o (now heights) (now biomes) × Cube (o .size) (now cells) × (j < o .size * o .size) × Laid w o (j * o .size) (now cells) ⌝ }
+    ensures { λ _. ⌜ Cube (o .size) (now (cells .exit)) × Laid w o (j * o .size + o .size) (now (cells .exit)) ⌝ }
 {
     let size = o.size;
-    let mut i = 0;
-    while i < cells.len() {
-        let k = i / size / size * size + i % size;
+    let y = j % size;
+    let z = j / size;
+    let mut x = 0;
+    while x < size {
+        let k = z * size + x;
         let t = Top {
             height: heights[k],
             biome: biomes[k],
         };
-        cells[i] = base_cell(w, o, t, i);
-        i += 1;
+        cells[j * size + x] = base_cell(w, o, t, x, y, z);
+        x += 1;
+    }
+}
+
+// Lays every cell, row by row.
+pub fn lay_base(w: World, o: Frame, heights: &[u16], biomes: &[u8], cells: &mut [u16])
+    requires { ⌜ Tall w × Near o × Noted w o (now heights) (now biomes) × Cube (o .size) (now cells) ⌝ }
+    ensures { λ _. ⌜ now (cells .exit) ≡ baseCells w o ⌝ }
+{
+    let rows = o.size * o.size;
+    let mut j = 0;
+    while j < rows {
+        lay_row(w, o, heights, biomes, cells, j);
+        j += 1;
     }
 }
