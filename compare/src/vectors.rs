@@ -292,7 +292,7 @@ fn usual_call(kind: u32, size: u32) -> Asked {
 /// The calls of the list: each kind at and around each of its limits, one thing at a time.
 fn asked_calls() -> Vec<Asked> {
     let mut all = vec![];
-    for kind in [1, 2, 3, 4, 5, 6, 7, 9, 10] {
+    for kind in 1..=10 {
         for size in [1, 2, 3, 5, 63, 64] {
             let q = usual_call(kind, size);
             all.push(q);
@@ -333,6 +333,7 @@ fn cells_line(report: &mut Report, q: &Asked) -> String {
         5 => bare::replace_blocks(&mut cells, size, &vec![0; at[0]]),
         6 => bare::set(&mut cells, size, q.count, at, q.id),
         7 => bare::fill_column(&mut cells, size, q.count, at, q.id),
+        8 => return batch_line(report, q, cells),
         9 => return border_line(&cells, size, at),
         _ => return tally_line(&cells, size, at),
     };
@@ -373,6 +374,31 @@ fn original_agrees(q: &Asked, before: &[u16], after: &[u16], value: u32) -> bool
         }
     };
     chunk.blocks() == after && said.is_none_or(|v| v == value)
+}
+
+/// A batch of two groups, at the arguments and at the arguments backward, and two numbers left over;
+/// the call's number stands for the id.
+fn batch_line(report: &mut Report, q: &Asked, mut cells: Vec<u16>) -> String {
+    let [a, b, c] = q.args;
+    let id = q.kind * 65_536 + q.id as u32;
+    let edits = [a, b, c, id, c, b, a, id, a, b];
+    let before = cells.clone();
+    let reply = bare::set_blocks(&mut cells, q.size as usize, q.count, &edits);
+    if reply.number != 0 {
+        return format!("{} 0 {}\n", reply.number, checksum(&cells));
+    }
+    let mut chunk = Chunk::new(q.size as usize).expect("an accepted size is within its limit");
+    chunk
+        .replace_blocks(&before)
+        .expect("accepted cells are size cubed");
+    let counts = chunk.non_air_blocks() == q.count;
+    let written = chunk.set_blocks(&edits) as usize;
+    let count_agrees = !counts || chunk.non_air_blocks() == reply.count;
+    report.same(
+        chunk.blocks() == cells && written == reply.written && count_agrees,
+        || format!("a batch on size {}: the model is not the original", q.size),
+    );
+    format!("0 {} {} {}\n", reply.written, reply.count, checksum(&cells))
 }
 
 fn border_line(cells: &[u16], size: usize, [face, places, _]: [usize; 3]) -> String {

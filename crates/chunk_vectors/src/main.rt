@@ -9,6 +9,7 @@ ghost use lib.ListN.{length};
 use chunk::BlockId;
 use chunk::Counted;
 use chunk::Flag;
+use chunk_batch::BatchReply;
 use chunk_border::Extracted;
 use chunk_border::Face;
 use tally::Listed;
@@ -227,11 +228,55 @@ fn make(list: &[u32; 7]) {
     call(list[0] / 65536, q, &mut cells[..n]);
 }
 
+// What a batch says: the number of groups written, the count, and a checksum of the cells.
+fn written(answer: BatchReply, cells: &[u16]) {
+    match answer {
+        BatchReply::Written { written, count } => {
+            show(0, b' ');
+            said_written(written, count, cells);
+        }
+        BatchReply::Refused(k) => said(k, 0, cells),
+    }
+}
+
+fn said_written(written: usize, count: u32, cells: &[u16]) {
+    show(written as u64, b' ');
+    show(count as u64, b' ');
+    show(replay::checksum(cells) as u64, b'\n');
+}
+
+// A batch of two groups, at (a, b, c) and (c, b, a), and two numbers left over. The call's number
+// stands for the id, so that an id is above 65,535.
+fn batch(list: &[u32; 7], cells: &mut [u16]) {
+    fill(cells);
+    let k = list[0];
+    let a = list[4];
+    let b = list[5];
+    let c = list[6];
+    let edits = [a, b, c, k, c, b, a, k, a, b];
+    let answer = chunk_batch::set_blocks(cells, index(list[1]), list[3], &edits);
+    written(answer, cells);
+}
+
+// Makes the batch of one line, on as many cells as it says.
+fn make_batch(list: &[u32; 7]) {
+    let mut cells = replay::room();
+    let n = index(list[2]);
+    if n > 262144 {
+        return;
+    }
+    batch(list, &mut cells[..n]);
+}
+
 // Answers the line that begins at a position, and where the next one begins.
 fn row(text: &[u8], from: usize) -> usize {
     let mut list = [0u32; 7];
     let next = replay::seven(text, from, &mut list);
-    make(&list);
+    if list[0] / 65536 == 8 {
+        make_batch(&list);
+    } else {
+        make(&list);
+    }
     next
 }
 
