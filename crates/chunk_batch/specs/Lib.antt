@@ -2,3 +2,4 @@ pub mod Laid
 pub mod Net
 pub mod Replies
 pub mod Calls
+pub mod Equal
