@@ -239,7 +239,9 @@ mod calls {
 
         #[cfg(has_batch)]
         pub fn set_blocks(&mut self, report: &mut Report, rng: &mut Rng) {
-            let edits = batch(rng, self.size, 30);
+            // a long one is tried on a copy before it is laid
+            let groups = if rng.once_in(8) { 600 } else { 30 };
+            let edits = batch(rng, self.size, groups);
             let mut ours = self.cells.clone();
             let answer = ffi::set_blocks(&mut ours, self.size, self.count, &edits);
             let before = self.count;
@@ -358,7 +360,8 @@ mod calls {
             });
             #[cfg(has_batch)]
             {
-                let edits = batch(rng, self.size, 12);
+                let groups = if rng.once_in(8) { 400 } else { 12 };
+                let edits = batch(rng, self.size, groups);
                 let answer = ffi::set_blocks(&mut ours, size, count, &edits);
                 let wanted = bare::set_blocks(&mut model, size, count, &edits);
                 report.same(answer == wanted && ours == model, || {

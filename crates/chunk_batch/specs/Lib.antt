@@ -3,3 +3,4 @@ pub mod Net
 pub mod Replies
 pub mod Calls
 pub mod Equal
+pub mod Trial

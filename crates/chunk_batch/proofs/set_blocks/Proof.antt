@@ -31,12 +31,12 @@ none c = sym (c .before .refuse-chunk .ensures) ∙ c .if1 .left
 passed : (c : tie.Else1) → Chunk (start c .args .size) (length (start c .args .cells .now))
 passed c = chunk-passed _ _ (none c)
 
-batch-change-requires : tie.Need-batch-change-requires
-batch-change-requires c κs = cube-of _ _ (passed (c .before))
+any-change-requires : tie.Need-any-change-requires
+any-change-requires c κs = cube-of _ _ (passed (c .before))
 
 refuse-change-requires : tie.Need-refuse-change-requires
 refuse-change-requires c κs =
-    let m = c .batch-change .ensures .most-after in
+    let m = c .any-change .ensures .most-after in
     (passed (c .before .before) .most, omega arith)
 
 same-length : tie.Need-same-length
@@ -46,7 +46,7 @@ returns-2 : tie.Need-returns-2
 unfolding batchDoes
 returns-2 c =
     let b = c .before .before in
-    edit-count _ _ _ _ _ _ _ _ (none (b .before .before)) (b .batch-change .ensures .moves) _ (c .before .refuse-change .ensures) (c .if2 .taken)
+    edit-count _ _ _ _ _ _ _ _ (none (b .before .before)) (b .any-change .ensures .moves) _ (c .before .refuse-change .ensures) (c .if2 .taken)
 
 count-inside-requires : tie.Need-count-inside-requires
 count-inside-requires c κs = search needs
@@ -55,7 +55,7 @@ count-inside-requires c κs = search needs
 abbrev first : tie.Else2 → tie.Else1
 first c = c .before .before .before .before
 
-counted : (c : tie.Else2) → CountOk (start (first c) .args .size) (start (first c) .args .count) (c .before .before .batch-change .result .before) (c .before .before .batch-change .result .after)
+counted : (c : tie.Else2) → CountOk (start (first c) .args .size) (start (first c) .args .count) (c .before .before .any-change .result .before) (c .before .before .any-change .result .after)
 counted c = count-passed _ _ _ _ (sym (c .before .refuse-change .ensures) ∙ c .if2 .left)
 
 lay-groups-requires : tie.Need-lay-groups-requires
@@ -85,9 +85,9 @@ returns-3 c =
     let e = n .before in
     let b = e .before .before in
     let a = start (first e) .args in
-    let r = b .batch-change .result in
+    let r = b .any-change .result in
     ap₂ (λ (k : ℕ) (d : List ℕ). outcome (accepted (k ∷ (a .count + r .after - r .before) ∷ [])) d) (n .count-inside .ensures) (l .lay-groups .ensures)
-    ∙ edit-done _ _ _ (_ ∷ []) _ _ _ _ (none (first e)) (b .batch-change .ensures .moves) _ (e .before .refuse-change .ensures) (e .if2 .left)
+    ∙ edit-done _ _ _ (_ ∷ []) _ _ _ _ (none (first e)) (b .any-change .ensures .moves) _ (e .before .refuse-change .ensures) (e .if2 .left)
 
 pub set-blocks-spec : {M : Type 1} → statement M
 set-blocks-spec =
@@ -95,7 +95,7 @@ set-blocks-spec =
     (tie.spec
     refuse-chunk-requires
     returns
-    batch-change-requires
+    any-change-requires
     refuse-change-requires
     same-length
     returns-2
