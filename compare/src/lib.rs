@@ -11,4 +11,5 @@ pub mod report;
 pub mod rng;
 pub mod seen;
 pub mod session;
+pub mod stack;
 pub mod vectors;

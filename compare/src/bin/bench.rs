@@ -2,10 +2,15 @@
 //! processor, in turns, and prints a table of medians. With `count N SIDE` it runs one workload once,
 //! for a tool that counts instructions.
 use compare::ffi::native::{self, Native};
+use compare::ffi::session::Product;
 use compare::ffi::{self, Site};
 use compare::ground::height_at;
+use compare::model::Call;
 use compare::rng::Rng;
+use compare::session::Calls;
+use compare::stack;
 use original::plain;
+use std::cell::RefCell;
 use std::hint::black_box;
 
 /// How often each side of a workload is timed; the median counts.
@@ -198,10 +203,64 @@ fn workloads<'a>(
 ) -> Vec<Workload<'a>> {
     let mut all = hashes(whole, near);
     all.extend(noises(real, near));
-    if ffi::HAS_GROUND {
-        all.extend(grounds(near));
-    }
+    all.extend(grounds(near));
     all
+}
+
+/// Calls of a session at its limits, at size 64: the Rust has none, so each stands beside one
+/// generation of its chunk. A call is made again and again from the same record.
+fn presses<'a>() -> Vec<Workload<'a>> {
+    let site = stack::site();
+    let start = stack::long_session(&Product, site);
+    let row = |name: &str, times: usize, run: Box<dyn Fn() -> f64>| Workload {
+        name: format!("{name}, x{times}"),
+        product: Box::new(move || (0..times).map(|_| run()).sum()),
+        baseline: Box::new(move || one_generation(site)),
+        native: None,
+    };
+    let press = |call: Call| {
+        let lent = RefCell::new(start.clone());
+        Box::new(move || {
+            let mut lent = lent.borrow_mut();
+            let before = lent.record;
+            let answer = Product
+                .call(&mut lent, &call)
+                .expect("an edit with room for its line");
+            lent.record = before;
+            answer as f64
+        })
+    };
+    let column = Call::Column {
+        x: 3,
+        z: 5,
+        height: 64,
+        id: 4,
+    };
+    let opened = start.clone();
+    let cells = RefCell::new(start.cells.clone());
+    vec![
+        row("session set", 1000, press(Call::Set([1, 2, 3], 4))),
+        row("session column of 64", 1000, press(column)),
+        row("session batch of 16", 1000, press(Call::Batch(stack::groups()))),
+        row("undo, 255 active", 1, press(Call::Undo)),
+        row(
+            "reopening of 32 KiB",
+            1,
+            Box::new(move || {
+                let answer = Product.reopen(&opened.journal, opened.record.used, &mut cells.borrow_mut());
+                answer.expect("a journal as it was written").1 as f64
+            }),
+        ),
+    ]
+}
+
+/// One generation of a chunk by the product.
+fn one_generation(site: Site) -> f64 {
+    let mut cells = vec![0; site.chunk_size.pow(3)];
+    match ffi::generate(&site, &mut cells) {
+        ffi::Laid::Count(n) => n as f64,
+        ffi::Laid::Refused(_) => unreachable!("a benchmark's chunk is within the limits"),
+    }
 }
 
 /// The work whose instructions are counted: the tool collects inside this function alone.
@@ -233,20 +292,20 @@ fn table(all: &[Workload]) {
         "workload", "product", "Rust", "prod/R", "R/prod", "native", "nat/prod"
     );
     all.iter().for_each(measure);
-    if !ffi::HAS_GROUND {
-        println!("ground: not measured, as the library lacks it");
-    }
+    println!("Calls of a session with 255 active edits and a journal of 32 KiB, at size 64 and the surface. Here the second");
+    println!("time is one generation of that chunk by the product itself.");
+    presses().iter().for_each(measure);
 }
 
 fn main() {
     let words: Vec<String> = std::env::args().skip(1).collect();
     let (whole, real) = (wholes(20_000), points(5_000));
     match words.as_slice() {
-        [mode, number, side] if mode == "count" => count(
-            &workloads(&whole, &real, None),
-            number.parse().unwrap_or(usize::MAX),
-            side,
-        ),
+        [mode, number, side] if mode == "count" => {
+            let mut all = workloads(&whole, &real, None);
+            all.extend(presses());
+            count(&all, number.parse().unwrap_or(usize::MAX), side);
+        }
         _ => {
             let loaded = native::load(words.first().map_or("", String::as_str));
             table(&workloads(&whole, &real, loaded.as_ref()));
