@@ -9,10 +9,10 @@ const PARTS: [(&str, &str); 10] = [
     ("has_border", "pl_extract_border"),
     ("has_tally", "pl_tally"),
     ("has_session", "pl_session_set"),
-    ("has_fresh", "pl_fresh"),
-    ("has_session_batch", "pl_session_batch"),
-    ("has_undo", "pl_undo"),
-    ("has_reopen", "pl_reopen"),
+    ("has_fresh", "pl_session_fresh"),
+    ("has_session_batch", "pl_session_set_blocks"),
+    ("has_undo", "pl_session_undo"),
+    ("has_reopen", "pl_session_reopen"),
 ];
 
 fn main() {

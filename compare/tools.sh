@@ -22,7 +22,7 @@ find_source() {
 find_tools() {
     command -v rustc > /dev/null || missing "no rustc: a Rust compiler is needed to build the original"
     command -v cargo > /dev/null || missing "no cargo: a Rust compiler is needed to build the original"
-    [ -n "${PRODUCT_LIB:-}" ] || command -v rt > /dev/null || missing "no rt: the product's archive is built by 'rt staticlib boundary'"
+    [ -n "${PRODUCT_LIB:-}" ] || command -v rt > /dev/null || missing "no rt: the product's archive is built by 'hosts/build'"
 }
 
 # Builds the archive, unless PRODUCT_LIB names one that is there already.
@@ -30,11 +30,11 @@ build_product() {
     if [ -z "${PRODUCT_LIB:-}" ]; then
         local log=$compare/target/staticlib.log
         mkdir -p "$compare/target"
-        (cd "$root" && rt staticlib boundary) > "$log" 2>&1 || {
+        "$root/hosts/build" > "$log" 2>&1 || {
             tail -n 20 "$log" >&2
-            missing "'rt staticlib boundary' failed: $log has it whole"
+            missing "'hosts/build' failed: $log has it whole"
         }
-        PRODUCT_LIB=$root/target/staticlib/libboundary.a
+        PRODUCT_LIB=$root/target/host/lib/libperillahinge.a
     fi
     if [ -d "$root/crates/openmap" ] && [ -z "${OPENMAP:-}" ]; then
         (cd "$root" && rt check openmap) > "$compare/target/openmap.log" 2>&1 ||
@@ -44,6 +44,21 @@ build_product() {
     export OPENMAP=${OPENMAP:-}
     [ -f "$PRODUCT_LIB" ] || missing "no archive '$PRODUCT_LIB'"
     export PRODUCT_LIB
+}
+
+# Builds and runs the example hosts; a wrong answer of theirs is a difference.
+run_hosts() {
+    status=0
+    hosts_failed=0
+    "$root/hosts/run" "$PRODUCT_LIB"
+    case $? in
+    0) ;;
+    1)
+        status=1
+        hosts_failed=1
+        ;;
+    *) missing "an example host cannot be built" ;;
+    esac
 }
 
 # Builds this driver, offline and for the baseline of the processor's family.

@@ -104,9 +104,10 @@ pub const HAS_GROUND: bool = cfg!(has_ground);
 #[cfg(has_ground)]
 pub fn generate(s: &Site, cells: &mut [u16]) -> Laid {
     extern "C" {
-        fn pl_generate(config: Config, pos: Pos, cells: *mut u16, n: usize) -> Reply;
+        fn pl_generate(config: Config, pos: Pos, cells: *mut u16, n: usize) -> Answer;
     }
-    let reply = unsafe { pl_generate(s.config(), s.pos(), cells.as_mut_ptr(), cells.len()) };
+    let answer = unsafe { pl_generate(s.config(), s.pos(), cells.as_mut_ptr(), cells.len()) };
+    let reply = answer.reply();
     match reply.number {
         0 => Laid::Count(reply.value),
         number => Laid::Refused(number),
@@ -118,9 +119,35 @@ pub fn generate(_: &Site, _: &mut [u16]) -> Laid {
     unreachable!("the library has no pl_generate")
 }
 
+/// The answer of a call on cells, as the library gives it.
+#[repr(C)]
+#[derive(Clone, Copy)]
+struct Answer {
+    number: u32,
+    line: usize,
+    value: usize,
+}
+
+/// A number of these calls comes with line 0: with another line it is one that no model gives.
+fn at_line_0(number: u32, line: usize) -> u32 {
+    if line == 0 {
+        number
+    } else {
+        1000 + number
+    }
+}
+
+impl Answer {
+    fn reply(self) -> Reply {
+        Reply {
+            number: at_line_0(self.number, self.line),
+            value: u32::try_from(self.value).unwrap_or(u32::MAX),
+        }
+    }
+}
+
 /// The answer of a call on cells: 01's number, 0 where it is accepted, and a value: the count, an
 /// id, the number of ids, or 0 and 1 for no and yes.
-#[repr(C)]
 #[derive(Clone, Copy, Debug, PartialEq)]
 pub struct Reply {
     pub number: u32,
@@ -128,7 +155,6 @@ pub struct Reply {
 }
 
 /// The answer of a batch: 01's number, the count, and how many groups were written.
-#[repr(C)]
 #[derive(Clone, Copy, Debug, PartialEq)]
 pub struct BatchReply {
     pub number: u32,
@@ -145,14 +171,14 @@ pub const HAS_TALLY: bool = cfg!(has_tally);
 #[cfg(has_chunk)]
 pub mod chunk {
     //! Calls on lent cells.
-    use super::Reply;
+    use super::{Answer, Reply};
 
     extern "C" {
-        fn pl_get(cells: *const u16, n: usize, size: usize, x: usize, y: usize, z: usize) -> Reply;
-        fn pl_is_air(cells: *const u16, n: usize, size: usize, x: usize, y: usize, z: usize) -> Reply;
-        fn pl_is_empty(cells: *const u16, n: usize, size: usize) -> Reply;
-        fn pl_is_solid(cells: *const u16, n: usize, size: usize) -> Reply;
-        fn pl_replace_blocks(cells: *mut u16, n: usize, size: usize, blocks: *const u16, m: usize) -> Reply;
+        fn pl_get(cells: *const u16, n: usize, size: usize, x: usize, y: usize, z: usize) -> Answer;
+        fn pl_is_air(cells: *const u16, n: usize, size: usize, x: usize, y: usize, z: usize) -> Answer;
+        fn pl_is_empty(cells: *const u16, n: usize, size: usize) -> Answer;
+        fn pl_is_solid(cells: *const u16, n: usize, size: usize) -> Answer;
+        fn pl_replace_blocks(cells: *mut u16, n: usize, size: usize, blocks: *const u16, m: usize) -> Answer;
         fn pl_set(
             cells: *mut u16,
             n: usize,
@@ -162,7 +188,7 @@ pub mod chunk {
             y: usize,
             z: usize,
             id: u16,
-        ) -> Reply;
+        ) -> Answer;
         fn pl_fill_column(
             cells: *mut u16,
             n: usize,
@@ -172,23 +198,23 @@ pub mod chunk {
             z: usize,
             height: usize,
             id: u16,
-        ) -> Reply;
+        ) -> Answer;
     }
 
     pub fn get(cells: &[u16], size: usize, [x, y, z]: [usize; 3]) -> Reply {
-        unsafe { pl_get(cells.as_ptr(), cells.len(), size, x, y, z) }
+        unsafe { pl_get(cells.as_ptr(), cells.len(), size, x, y, z) }.reply()
     }
 
     pub fn is_air(cells: &[u16], size: usize, [x, y, z]: [usize; 3]) -> Reply {
-        unsafe { pl_is_air(cells.as_ptr(), cells.len(), size, x, y, z) }
+        unsafe { pl_is_air(cells.as_ptr(), cells.len(), size, x, y, z) }.reply()
     }
 
     pub fn is_empty(cells: &[u16], size: usize) -> Reply {
-        unsafe { pl_is_empty(cells.as_ptr(), cells.len(), size) }
+        unsafe { pl_is_empty(cells.as_ptr(), cells.len(), size) }.reply()
     }
 
     pub fn is_solid(cells: &[u16], size: usize) -> Reply {
-        unsafe { pl_is_solid(cells.as_ptr(), cells.len(), size) }
+        unsafe { pl_is_solid(cells.as_ptr(), cells.len(), size) }.reply()
     }
 
     pub fn replace_blocks(cells: &mut [u16], size: usize, blocks: &[u16]) -> Reply {
@@ -201,10 +227,11 @@ pub mod chunk {
                 blocks.len(),
             )
         }
+        .reply()
     }
 
     pub fn set(cells: &mut [u16], size: usize, count: u32, [x, y, z]: [usize; 3], id: u16) -> Reply {
-        unsafe { pl_set(cells.as_mut_ptr(), cells.len(), size, count, x, y, z, id) }
+        unsafe { pl_set(cells.as_mut_ptr(), cells.len(), size, count, x, y, z, id) }.reply()
     }
 
     pub fn fill_column(
@@ -214,12 +241,19 @@ pub mod chunk {
         [x, z, height]: [usize; 3],
         id: u16,
     ) -> Reply {
-        unsafe { pl_fill_column(cells.as_mut_ptr(), cells.len(), size, count, x, z, height, id) }
+        unsafe { pl_fill_column(cells.as_mut_ptr(), cells.len(), size, count, x, z, height, id) }.reply()
     }
 }
 
 #[cfg(has_batch)]
 pub fn set_blocks(cells: &mut [u16], size: usize, count: u32, edits: &[u32]) -> BatchReply {
+    #[repr(C)]
+    struct BatchAnswer {
+        number: u32,
+        line: usize,
+        written: usize,
+        count: u32,
+    }
     extern "C" {
         fn pl_set_blocks(
             cells: *mut u16,
@@ -228,9 +262,9 @@ pub fn set_blocks(cells: &mut [u16], size: usize, count: u32, edits: &[u32]) -> 
             count: u32,
             edits: *const u32,
             edits_len: usize,
-        ) -> BatchReply;
+        ) -> BatchAnswer;
     }
-    unsafe {
+    let answer = unsafe {
         pl_set_blocks(
             cells.as_mut_ptr(),
             cells.len(),
@@ -239,6 +273,11 @@ pub fn set_blocks(cells: &mut [u16], size: usize, count: u32, edits: &[u32]) -> 
             edits.as_ptr(),
             edits.len(),
         )
+    };
+    BatchReply {
+        number: at_line_0(answer.number, answer.line),
+        count: answer.count,
+        written: answer.written,
     }
 }
 
@@ -253,7 +292,7 @@ pub fn extract_border(cells: &[u16], size: usize, face: u32, border: &mut [u16])
             face: u32,
             border: *mut u16,
             border_len: usize,
-        ) -> Reply;
+        ) -> Answer;
     }
     unsafe {
         pl_extract_border(
@@ -265,16 +304,12 @@ pub fn extract_border(cells: &[u16], size: usize, face: u32, border: &mut [u16])
             border.len(),
         )
     }
+    .reply()
 }
 
 /// Answers the refusal's number and how many ids were listed.
 #[cfg(has_tally)]
 pub fn tally(cells: &[u16], size: usize, ids: &mut [u16], counts: &mut [u32]) -> (u32, usize) {
-    #[repr(C)]
-    struct TallyReply {
-        number: u32,
-        ids: usize,
-    }
     extern "C" {
         fn pl_tally(
             cells: *const u16,
@@ -284,9 +319,9 @@ pub fn tally(cells: &[u16], size: usize, ids: &mut [u16], counts: &mut [u32]) ->
             ids_len: usize,
             counts: *mut u32,
             counts_len: usize,
-        ) -> TallyReply;
+        ) -> Answer;
     }
-    let reply = unsafe {
+    let answer = unsafe {
         pl_tally(
             cells.as_ptr(),
             cells.len(),
@@ -297,12 +332,13 @@ pub fn tally(cells: &[u16], size: usize, ids: &mut [u16], counts: &mut [u32]) ->
             counts.len(),
         )
     };
-    (reply.number, reply.ids)
+    (at_line_0(answer.number, answer.line), answer.value)
 }
 
 #[cfg(has_session)]
 pub mod session {
-    //! The product's session calls by value, behind the trait that session.rs compares.
+    //! The product's session calls, over a record lent by reference, behind the trait that
+    //! session.rs compares.
     use super::{Config, Pos, Site};
     use crate::model::{Call, Lent, Record, Refusal};
     use crate::session::{Calls, Part};
@@ -318,8 +354,7 @@ pub mod session {
     }
 
     #[repr(C)]
-    struct Edited {
-        session: Session,
+    struct Reply {
         refusal: u32,
         line: usize,
         written: usize,
@@ -336,7 +371,7 @@ pub mod session {
 
     extern "C" {
         #[cfg(has_fresh)]
-        fn pl_fresh(
+        fn pl_session_fresh(
             config: Config,
             pos: Pos,
             cells: *mut u16,
@@ -345,7 +380,7 @@ pub mod session {
             m: usize,
         ) -> Opened;
         fn pl_session_set(
-            session: Session,
+            session: *mut Session,
             cells: *mut u16,
             n: usize,
             journal: *mut u8,
@@ -354,9 +389,9 @@ pub mod session {
             y: usize,
             z: usize,
             id: u16,
-        ) -> Edited;
-        fn pl_session_column(
-            session: Session,
+        ) -> Reply;
+        fn pl_session_fill_column(
+            session: *mut Session,
             cells: *mut u16,
             n: usize,
             journal: *mut u8,
@@ -365,23 +400,29 @@ pub mod session {
             z: usize,
             height: usize,
             id: u16,
-        ) -> Edited;
+        ) -> Reply;
         #[cfg(has_session_batch)]
-        fn pl_session_batch(
-            session: Session,
+        fn pl_session_set_blocks(
+            session: *mut Session,
             cells: *mut u16,
             n: usize,
             journal: *mut u8,
             m: usize,
             edits: *const u32,
             edits_len: usize,
-        ) -> Edited;
+        ) -> Reply;
         #[cfg(has_undo)]
-        fn pl_undo(session: Session, cells: *mut u16, n: usize, journal: *mut u8, m: usize) -> Edited;
+        fn pl_session_undo(
+            session: *mut Session,
+            cells: *mut u16,
+            n: usize,
+            journal: *mut u8,
+            m: usize,
+        ) -> Reply;
         #[cfg(has_reopen)]
-        fn pl_reopen(journal: *const u8, m: usize, held: usize, cells: *mut u16, n: usize) -> Opened;
+        fn pl_session_reopen(cells: *mut u16, n: usize, journal: *const u8, m: usize, held: usize) -> Opened;
         #[cfg(has_reopen)]
-        fn pl_committed(journal: *const u8, m: usize, held: usize) -> usize;
+        fn pl_committed_len(journal: *const u8, m: usize, held: usize) -> usize;
     }
 
     fn session(r: &Record) -> Session {
@@ -414,18 +455,18 @@ pub mod session {
 
     // What the library lacks is never called: session.rs asks first.
     #[cfg(not(has_fresh))]
-    unsafe fn pl_fresh(_: Config, _: Pos, _: *mut u16, _: usize, _: *mut u8, _: usize) -> Opened {
-        unreachable!("the library has no pl_fresh")
+    unsafe fn pl_session_fresh(_: Config, _: Pos, _: *mut u16, _: usize, _: *mut u8, _: usize) -> Opened {
+        unreachable!("the library has no pl_session_fresh")
     }
 
     #[cfg(not(has_reopen))]
-    unsafe fn pl_reopen(_: *const u8, _: usize, _: usize, _: *mut u16, _: usize) -> Opened {
-        unreachable!("the library has no pl_reopen")
+    unsafe fn pl_session_reopen(_: *mut u16, _: usize, _: *const u8, _: usize, _: usize) -> Opened {
+        unreachable!("the library has no pl_session_reopen")
     }
 
     #[cfg(not(has_reopen))]
-    unsafe fn pl_committed(_: *const u8, _: usize, _: usize) -> usize {
-        unreachable!("the library has no pl_reopen")
+    unsafe fn pl_committed_len(_: *const u8, _: usize, _: usize) -> usize {
+        unreachable!("the library has no pl_session_reopen")
     }
 
     pub struct Product;
@@ -443,7 +484,7 @@ pub mod session {
         fn fresh(&self, site: &Site, cells: &mut [u16], journal: &mut [u8]) -> Result<Record, u32> {
             let (n, m) = (cells.len(), journal.len());
             let opened = unsafe {
-                pl_fresh(
+                pl_session_fresh(
                     site.config(),
                     site.pos(),
                     cells.as_mut_ptr(),
@@ -461,27 +502,27 @@ pub mod session {
         }
 
         fn call(&self, lent: &mut Lent, call: &Call) -> Result<usize, u32> {
-            let s = session(&lent.record);
+            let mut record_lent = session(&lent.record);
+            let s = &mut record_lent;
             let (c, n) = (lent.cells.as_mut_ptr(), lent.cells.len());
             let (j, m) = (lent.journal.as_mut_ptr(), lent.journal.len());
-            let edited = unsafe {
+            let reply = unsafe {
                 match call {
                     Call::Set([x, y, z], id) => pl_session_set(s, c, n, j, m, *x, *y, *z, *id),
                     Call::Column { x, z, height, id } => {
-                        pl_session_column(s, c, n, j, m, *x, *z, *height, *id)
+                        pl_session_fill_column(s, c, n, j, m, *x, *z, *height, *id)
                     }
                     #[cfg(has_session_batch)]
-                    Call::Batch(edits) => pl_session_batch(s, c, n, j, m, edits.as_ptr(), edits.len()),
+                    Call::Batch(edits) => pl_session_set_blocks(s, c, n, j, m, edits.as_ptr(), edits.len()),
                     #[cfg(has_undo)]
-                    Call::Undo => pl_undo(s, c, n, j, m),
+                    Call::Undo => pl_session_undo(s, c, n, j, m),
                     #[allow(unreachable_patterns)]
                     _ => unreachable!("a call that the library lacks is not made"),
                 }
             };
-            lent.record = record(&edited.session);
-            match (edited.refusal, edited.line) {
-                (0, _) if matches!(call, Call::Batch(_)) => Ok(edited.written),
-                (0, _) => Ok(0),
+            lent.record = record(&record_lent);
+            match (reply.refusal, reply.line) {
+                (0, _) => Ok(reply.written),
                 (number, 0) => Err(number),
                 (number, _) => Err(1000 + number),
             }
@@ -494,7 +535,7 @@ pub mod session {
             cells: &mut [u16],
         ) -> Result<(Record, usize, usize), Refusal> {
             let (n, m) = (cells.len(), journal.len());
-            let opened = unsafe { pl_reopen(journal.as_ptr(), m, held, cells.as_mut_ptr(), n) };
+            let opened = unsafe { pl_session_reopen(cells.as_mut_ptr(), n, journal.as_ptr(), m, held) };
             match opened.refusal {
                 0 => Ok((record(&opened.session), opened.lines, opened.trailing)),
                 number => Err(Refusal {
@@ -505,7 +546,7 @@ pub mod session {
         }
 
         fn counted(&self, journal: &[u8], held: usize) -> usize {
-            unsafe { pl_committed(journal.as_ptr(), journal.len(), held) }
+            unsafe { pl_committed_len(journal.as_ptr(), journal.len(), held) }
         }
     }
 }

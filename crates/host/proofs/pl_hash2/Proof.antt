@@ -3,11 +3,8 @@ use mir.Syntax.{w32}
 use mir.ValLaws.{toZ-ofZ}
 use Rattle.noise.specs.Hash.{hash2₃₂}
 use borrow.Author.Needs.{needs}
-use Rattle.boundary.proofs.pl_hash2.Statement.{statement}
-use Rattle.boundary.proofs.pl_hash2.Tie as tie
-use Rattle.boundary.proofs.pl_hash2.Reads as reads
-use Rattle.boundary.proofs.pl_hash2.Lts as lts
-use Rattle.noise.proofs.hash2.Reads as hash2-reads
+use Rattle.host.proofs.pl_hash2.Statement.{statement}
+use Rattle.host.proofs.pl_hash2.Tie as tie
 
 -- src/lib.rt:10:5
 hash2-requires : tie.Need-hash2-requires

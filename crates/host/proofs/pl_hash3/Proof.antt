@@ -5,11 +5,8 @@ use mir.Val.{toZ, ofZ}
 use mir.ValLaws.{toZ-ofZ}
 use Rattle.noise.specs.Hash.{hash3₃₂}
 use borrow.Author.Needs.{needs}
-use Rattle.boundary.proofs.pl_hash3.Statement.{statement}
-use Rattle.boundary.proofs.pl_hash3.Tie as tie
-use Rattle.boundary.proofs.pl_hash3.Reads as reads
-use Rattle.boundary.proofs.pl_hash3.Lts as lts
-use Rattle.noise.proofs.hash3.Reads as hash3-reads
+use Rattle.host.proofs.pl_hash3.Statement.{statement}
+use Rattle.host.proofs.pl_hash3.Tie as tie
 
 -- src/lib.rt:17:5
 hash3-requires : tie.Need-hash3-requires

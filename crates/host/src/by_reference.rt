@@ -1,0 +1,67 @@
+// The four edits of a session over a record lent by reference, for a host that keeps one: each hands the record to the call by
+// value and stores what comes back. Exported to C as they stand; one equation for the record, the reply, the cells and the journal.
+ghost use mathlib.Core.Path.{_≡_};
+ghost use Rattle.calls.specs.Calls.{outcome, setDoes, columnDoes, batchDoes, undoDoes};
+use calls::Reply;
+use calls::Session;
+
+#[no_mangle]
+pub extern "C" fn pl_session_set(
+    session: &mut Session,
+    cells: &mut [u16],
+    journal: &mut [u8],
+    x: usize,
+    y: usize,
+    z: usize,
+    id: u16,
+) -> Reply
+    ensures { λ r. ⌜ outcome (now (session .exit)) r (now (cells .exit)) (now (journal .exit)) ≡ setDoes (now (session .entry)) (now (cells .entry)) (now (journal .entry)) x y z id ⌝ }
+{
+    let b = session::set(*session, cells, journal, x, y, z, id);
+    *session = b.session;
+    b.reply
+}
+
+#[no_mangle]
+pub extern "C" fn pl_session_fill_column(
+    session: &mut Session,
+    cells: &mut [u16],
+    journal: &mut [u8],
+    x: usize,
+    z: usize,
+    height: usize,
+    id: u16,
+) -> Reply
+    ensures { λ r. ⌜ outcome (now (session .exit)) r (now (cells .exit)) (now (journal .exit)) ≡ columnDoes (now (session .entry)) (now (cells .entry)) (now (journal .entry)) x z height id ⌝ }
+{
+    let b = session::fill_column(*session, cells, journal, x, z, height, id);
+    *session = b.session;
+    b.reply
+}
+
+#[no_mangle]
+pub extern "C" fn pl_session_set_blocks(
+    session: &mut Session,
+    cells: &mut [u16],
+    journal: &mut [u8],
+    edits: &[u32],
+) -> Reply
+    ensures { λ r. ⌜ outcome (now (session .exit)) r (now (cells .exit)) (now (journal .exit)) ≡ batchDoes (now (session .entry)) (now (cells .entry)) (now (journal .entry)) (now (edits .entry)) ⌝ }
+{
+    let b = session_batch::set_blocks(*session, cells, journal, edits);
+    *session = b.session;
+    b.reply
+}
+
+#[no_mangle]
+pub extern "C" fn pl_session_undo(
+    session: &mut Session,
+    cells: &mut [u16],
+    journal: &mut [u8],
+) -> Reply
+    ensures { λ r. ⌜ outcome (now (session .exit)) r (now (cells .exit)) (now (journal .exit)) ≡ undoDoes (now (session .entry)) (now (cells .entry)) (now (journal .entry)) ⌝ }
+{
+    let b = open_session::undo(*session, cells, journal);
+    *session = b.session;
+    b.reply
+}

@@ -1,0 +1,216 @@
+/* An example host: a fresh map, presses, a cut at every byte, and the next tablet takes over. It is C99 and C++11.
+ * It exits with 1, and says where, if an answer or a map is not what it must be. */
+#include "perillahinge.h"
+#include <stdio.h>
+#include <stdlib.h>
+#include <string.h>
+
+#define CHECK(holds)                                                                                                \
+    do {                                                                                                            \
+        if (!(holds)) {                                                                                             \
+            fprintf(stderr, "%s:%d: not so: %s\n", __FILE__, __LINE__, #holds);                                     \
+            exit(1);                                                                                                \
+        }                                                                                                           \
+    } while (0)
+
+enum { SIZE = 5, CELLS = SIZE * SIZE * SIZE, JOURNAL = 512, PRESSES = 8 };
+
+/* One tablet: what the host keeps, and lends to each call. */
+typedef struct tablet {
+    pl_session session;
+    uint16_t cells[CELLS];
+    uint8_t journal[JOURNAL];
+} tablet;
+
+/* What outlives a tablet: here a buffer, in a real host a file. All bytes before `confirmed` are stored for certain. */
+typedef struct storage {
+    uint8_t bytes[JOURNAL];
+    size_t confirmed;
+} storage;
+
+/* Stores what a call appended. A file would be written and synced before `confirmed` moves. */
+static void store(storage *file, const tablet *t) {
+    memcpy(file->bytes + file->confirmed, t->journal + file->confirmed, t->session.used - file->confirmed);
+    file->confirmed = t->session.used;
+}
+
+static int same_session(const pl_session *a, const pl_session *b) {
+    return a->config.seed == b->config.seed && a->config.sea_level == b->config.sea_level &&
+           a->config.world_height_blocks == b->config.world_height_blocks &&
+           a->config.chunk_size == b->config.chunk_size && a->pos.cx == b->pos.cx && a->pos.cy == b->pos.cy &&
+           a->pos.cz == b->pos.cz && a->count == b->count && a->used == b->used && a->active == b->active;
+}
+
+/* The same map: record, cells, and the journal's used bytes. */
+static int same_map(const tablet *a, const tablet *b) {
+    return same_session(&a->session, &b->session) && memcmp(a->cells, b->cells, sizeof a->cells) == 0 &&
+           memcmp(a->journal, b->journal, a->session.used) == 0;
+}
+
+static uint32_t nonzero(const uint16_t *cells, size_t n) {
+    uint32_t count = 0;
+    for (size_t i = 0; i < n; i++)
+        count += cells[i] != 0;
+    return count;
+}
+
+static size_t lines_in(const uint8_t *bytes, size_t n) {
+    size_t lines = 0;
+    for (size_t i = 0; i < n; i++)
+        lines += bytes[i] == '\n';
+    return lines;
+}
+
+/* The presses of a visit; each appends one line. */
+static pl_reply press(tablet *t, int k) {
+    static const uint32_t groups[] = {0, 0, 0, 9, 4, 4, 4, 65536 + 3, 5, 0, 0, 1, 7};
+    pl_session *s = &t->session;
+    switch (k) {
+    case 0:
+        return pl_session_set(s, t->cells, CELLS, t->journal, JOURNAL, 1, 2, 3, 65535);
+    case 1:
+        return pl_session_fill_column(s, t->cells, CELLS, t->journal, JOURNAL, 2, 2, 1000, 8);
+    case 2:
+        return pl_session_set_blocks(s, t->cells, CELLS, t->journal, JOURNAL, groups, 13);
+    case 3:
+        return pl_session_undo(s, t->cells, CELLS, t->journal, JOURNAL);
+    case 4:
+        return pl_session_set(s, t->cells, CELLS, t->journal, JOURNAL, 4, 0, 4, 0);
+    case 5:
+        return pl_session_undo(s, t->cells, CELLS, t->journal, JOURNAL);
+    case 6:
+        return pl_session_undo(s, t->cells, CELLS, t->journal, JOURNAL);
+    default:
+        return pl_session_fill_column(s, t->cells, CELLS, t->journal, JOURNAL, 0, 4, 3, 300);
+    }
+}
+
+/* The next tablet gets the first q bytes, then zeros, and must have the map of the last whole line. */
+static void take_over(const storage *file, size_t q, const tablet *maps) {
+    tablet next;
+    memset(&next, 0xee, sizeof next);
+    memset(next.journal, 0, JOURNAL);
+    memcpy(next.journal, file->bytes, q);
+    const size_t lines = lines_in(file->bytes, q);
+    const size_t held = q + 7 < JOURNAL ? q + 7 : q;
+    const pl_start start = pl_session_reopen(next.cells, CELLS, next.journal, JOURNAL, held);
+    if (lines == 0) {
+        CHECK(start.number == PL_NO_LINE && start.line == 0 && start.lines == 0);
+        CHECK(pl_committed_len(next.journal, JOURNAL, held) == 0);
+        CHECK(next.cells[0] == 0xeeee);
+        return;
+    }
+    CHECK(start.number == PL_OK && start.lines == lines);
+    next.session = start.session;
+    CHECK(same_map(&next, &maps[lines - 1]));
+    CHECK(start.trailing == held - start.session.used);
+    CHECK(pl_committed_len(next.journal, JOURNAL, held) == start.session.used);
+
+    /* It goes on from there: an edit and its undo bring the map back. */
+    CHECK(press(&next, 0).number == PL_OK && next.cells[1 + 2 * SIZE + 3 * SIZE * SIZE] == 65535);
+    CHECK(pl_session_undo(&next.session, next.cells, CELLS, next.journal, JOURNAL).number == PL_OK);
+    CHECK(memcmp(next.cells, maps[lines - 1].cells, sizeof next.cells) == 0);
+    CHECK(next.session.active == maps[lines - 1].session.active && next.session.count == maps[lines - 1].session.count);
+}
+
+/* A refused call changes nothing. */
+static void refusals(const tablet *last) {
+    tablet t = *last;
+    const uint32_t many[68] = {0};
+    pl_session *s = &t.session;
+    CHECK(pl_session_set(s, t.cells, CELLS, t.journal, JOURNAL, SIZE, 0, 0, 1).number == PL_OUTSIDE);
+    CHECK(pl_session_set_blocks(s, t.cells, CELLS, t.journal, JOURNAL, many, 68).number == PL_MANY_GROUPS);
+    CHECK(pl_session_set(s, t.cells, CELLS, t.journal, t.session.used, 0, 0, 0, 1).number == PL_FULL);
+    CHECK(pl_session_set(s, t.cells, CELLS - 1, t.journal, JOURNAL, 0, 0, 0, 1).number == PL_RECORD);
+    CHECK(pl_session_set(s, NULL, 0, NULL, 0, 0, 0, 0, 1).number == PL_RECORD);
+    CHECK(pl_session_fill_column(s, t.cells, CELLS, t.journal, JOURNAL, SIZE, 0, 3, 1).number == PL_OK);
+    CHECK(same_map(&t, last) && memcmp(t.journal, last->journal, JOURNAL) == 0);
+
+    t.journal[0] = 'H';
+    CHECK(pl_session_undo(s, t.cells, CELLS, t.journal, JOURNAL).number == PL_USED_BYTES);
+    const pl_start start = pl_session_reopen(t.cells, CELLS, t.journal, JOURNAL, s->used);
+    CHECK(start.number == PL_FIRST_LINE && start.line == 1 && start.session.config.chunk_size == 0);
+    t.session = start.session;
+    CHECK(pl_session_undo(s, t.cells, CELLS, t.journal, JOURNAL).number == PL_RECORD);
+    CHECK(memcmp(t.cells, last->cells, sizeof t.cells) == 0);
+}
+
+/* The calls without a session, on the last map's cells. */
+static void bare(const tablet *last) {
+    tablet t = *last;
+    uint16_t border[SIZE * SIZE], ids[CELLS];
+    uint32_t counts[CELLS];
+    pl_answer a = pl_set(t.cells, CELLS, SIZE, t.session.count, 0, 0, 0, 77);
+    CHECK(a.number == PL_OK && a.line == 0 && a.value == nonzero(t.cells, CELLS) && t.cells[0] == 77);
+    CHECK(pl_get(t.cells, CELLS, SIZE, 0, 0, 0).value == 77 && pl_is_air(t.cells, CELLS, SIZE, 0, 0, 0).value == 0);
+    CHECK(pl_get(t.cells, CELLS, SIZE, 0, SIZE, 0).number == PL_OUTSIDE);
+    CHECK(pl_extract_border(t.cells, CELLS, SIZE, PL_NEG_X, border, SIZE * SIZE).number == PL_OK && border[0] == 77);
+    border[0] = 1;
+    CHECK(pl_extract_border(t.cells, CELLS, SIZE, 6, border, SIZE * SIZE).number == PL_FACE && border[0] == 1);
+    a = pl_tally(t.cells, CELLS, SIZE, ids, CELLS, counts, CELLS);
+    uint32_t sum = 0;
+    for (size_t i = 0; i < a.value; i++)
+        sum += counts[i];
+    CHECK(a.number == PL_OK && sum == nonzero(t.cells, CELLS));
+    CHECK(pl_tally(t.cells, CELLS, SIZE, ids, 0, counts, 0).number == PL_TALLY_LISTS);
+    memset(border, 0, sizeof border);
+    CHECK(pl_is_empty(border, 8, 2).value == 1 && pl_is_solid(border, 8, 2).value == 0);
+    const uint32_t two[8] = {0, 0, 0, 5, 1, 1, 1, 6};
+    const pl_batch_answer b = pl_set_blocks(border, 8, 2, 0, two, 8);
+    CHECK(b.number == PL_OK && b.written == 2 && b.count == 2 && border[0] == 5 && border[7] == 6);
+    a = pl_fill_column(border, 8, 2, 2, 1, 0, 9, 4);
+    CHECK(a.number == PL_OK && a.value == 4 && border[1] == 4 && border[3] == 4);
+    CHECK(pl_replace_blocks(border, 8, 2, t.cells, 8).value == nonzero(t.cells, 8));
+    CHECK(memcmp(border, t.cells, 16) == 0);
+    a = pl_generate(last->session.config, last->session.pos, t.cells, CELLS);
+    CHECK(a.number == PL_OK && a.value == nonzero(t.cells, CELLS));
+}
+
+/* The example of the scope document: its text, and what it says the map is. */
+static void example(void) {
+    static const char text[] = "G\t0\t4096\t256\t2\t0\t128\t0\nS\t0\t0\t0\t0\nC\t1\t0\t2\t8\nU\nS\t1";
+    static const uint16_t wanted[8] = {0, 5, 5, 5, 5, 5, 5, 5};
+    uint16_t cells[8];
+    const size_t n = sizeof text - 1;
+    const pl_start start = pl_session_reopen(cells, 8, (const uint8_t *)text, n, n);
+    CHECK(start.number == PL_OK && start.lines == 4 && start.session.active == 1);
+    CHECK(start.session.count == 7 && start.trailing == 3 && memcmp(cells, wanted, sizeof cells) == 0);
+}
+
+int main(void) {
+    static tablet maps[PRESSES + 1]; /* the map after each line */
+    static storage file;
+    tablet t;
+    memset(&t, 0, sizeof t);
+
+    const pl_config config = {7, 24, 64, SIZE};
+    const pl_pos pos = {-3, 4, 2};
+    const pl_start start = pl_session_fresh(config, pos, t.cells, CELLS, t.journal, JOURNAL);
+    CHECK(start.number == PL_OK && start.lines == 1 && start.session.count == nonzero(t.cells, CELLS));
+    t.session = start.session;
+    store(&file, &t);
+    maps[0] = t;
+
+    for (int k = 0; k < PRESSES; k++) {
+        const pl_reply r = press(&t, k);
+        CHECK(r.number == PL_OK && r.line == 0 && r.written == (k == 2 ? 2u : 0u));
+        CHECK(t.session.count == nonzero(t.cells, CELLS));
+        store(&file, &t);
+        maps[k + 1] = t;
+    }
+
+    /* A cut can come at any byte. */
+    for (size_t q = 0; q <= file.confirmed; q++)
+        take_over(&file, q, maps);
+    refusals(&t);
+    bare(&t);
+    example();
+    printf("host in %s: %zu bytes, a cut at each, the map is there\n",
+#ifdef __cplusplus
+           "C++",
+#else
+           "C",
+#endif
+           file.confirmed);
+    return 0;
+}

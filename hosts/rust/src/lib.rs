@@ -1,0 +1,270 @@
+//! Perillahinge for Rust hosts: slices in, an enum out. All `unsafe` of a host is here. It is sound because every
+//! call returns for every input and touches only what it is lent, and because a Rust slice is what the C interface
+//! asks for: aligned, of its length, and where it is `&mut` not shared. include/perillahinge.h documents the calls.
+#![deny(missing_docs)]
+
+mod raw;
+
+pub use raw::{Config, Pos, Session};
+
+/// Why a call was refused. It has changed nothing.
+#[derive(Clone, Copy, Debug, PartialEq, Eq)]
+#[allow(missing_docs)]
+pub enum Refusal {
+    Size,
+    Seed,
+    SeaLevel,
+    WorldHeight,
+    Place,
+    Length,
+    Outside,
+    ManyGroups,
+    JournalLength,
+    NoLine,
+    /// The first line is not of its form.
+    FirstLine,
+    /// This line, counted from 1, is not of its form or may not stand there.
+    LaterLine(usize),
+    TallyLists,
+    Record,
+    UsedBytes,
+    NothingActive,
+    Full,
+    /// A number that this wrapper does not know: it does not belong to the archive.
+    Unknown(u32),
+}
+
+/// The refusal of a number, or none for 0.
+fn refusal(number: u32, line: usize) -> Result<(), Refusal> {
+    Err(match number {
+        0 => return Ok(()),
+        1 => Refusal::Size,
+        2 => Refusal::Seed,
+        3 => Refusal::SeaLevel,
+        4 => Refusal::WorldHeight,
+        5 => Refusal::Place,
+        6 => Refusal::Length,
+        7 => Refusal::Outside,
+        8 => Refusal::ManyGroups,
+        9 => Refusal::JournalLength,
+        10 => Refusal::NoLine,
+        11 => Refusal::FirstLine,
+        12 => Refusal::LaterLine(line),
+        13 => Refusal::TallyLists,
+        21 => Refusal::Record,
+        22 => Refusal::UsedBytes,
+        23 => Refusal::NothingActive,
+        24 => Refusal::Full,
+        other => Refusal::Unknown(other),
+    })
+}
+
+/// A side of a chunk; a face that is none cannot be named here.
+#[derive(Clone, Copy, Debug, PartialEq, Eq)]
+#[repr(u32)]
+#[allow(missing_docs)]
+pub enum Face {
+    PosX,
+    NegX,
+    PosY,
+    NegY,
+    PosZ,
+    NegZ,
+}
+
+/// A map that was taken over.
+#[derive(Clone, Copy, Debug, PartialEq)]
+pub struct Reopened {
+    /// The record, as it was after the last whole line.
+    pub session: Session,
+    /// The number of whole lines, the first included.
+    pub lines: usize,
+    /// The number of bytes after the last whole line.
+    pub trailing: usize,
+}
+
+fn started(start: raw::Start) -> Result<Reopened, Refusal> {
+    refusal(start.number, start.line)?;
+    Ok(Reopened {
+        session: start.session,
+        lines: start.lines,
+        trailing: start.trailing,
+    })
+}
+
+fn replied(reply: raw::Reply) -> Result<usize, Refusal> {
+    refusal(reply.number, reply.line)?;
+    Ok(reply.written)
+}
+
+fn answered(answer: raw::Answer) -> Result<usize, Refusal> {
+    refusal(answer.number, answer.line)?;
+    Ok(answer.value)
+}
+
+/// Lays the ground and writes the journal's first line.
+pub fn fresh(config: Config, pos: Pos, cells: &mut [u16], journal: &mut [u8]) -> Result<Session, Refusal> {
+    let (c, n, j, m) = (
+        cells.as_mut_ptr(),
+        cells.len(),
+        journal.as_mut_ptr(),
+        journal.len(),
+    );
+    started(unsafe { raw::pl_session_fresh(config, pos, c, n, j, m) }).map(|s| s.session)
+}
+
+/// Takes a map over from the first `held` bytes of a journal.
+pub fn reopen(cells: &mut [u16], journal: &[u8], held: usize) -> Result<Reopened, Refusal> {
+    let (c, n, j, m) = (cells.as_mut_ptr(), cells.len(), journal.as_ptr(), journal.len());
+    started(unsafe { raw::pl_session_reopen(c, n, j, m, held) })
+}
+
+/// The held bytes that count: those through the last LF.
+pub fn committed(journal: &[u8], held: usize) -> &[u8] {
+    &journal[..unsafe { raw::pl_committed_len(journal.as_ptr(), journal.len(), held) }]
+}
+
+impl Session {
+    /// Sets one cell.
+    pub fn set(
+        &mut self,
+        cells: &mut [u16],
+        journal: &mut [u8],
+        [x, y, z]: [usize; 3],
+        id: u16,
+    ) -> Result<(), Refusal> {
+        let (c, n, j, m) = (
+            cells.as_mut_ptr(),
+            cells.len(),
+            journal.as_mut_ptr(),
+            journal.len(),
+        );
+        replied(unsafe { raw::pl_session_set(self, c, n, j, m, x, y, z, id) }).map(|_| ())
+    }
+
+    /// Fills a column from y 0 up to a height, which is clipped to the size.
+    pub fn fill_column(
+        &mut self,
+        cells: &mut [u16],
+        journal: &mut [u8],
+        [x, z]: [usize; 2],
+        height: usize,
+        id: u16,
+    ) -> Result<(), Refusal> {
+        let (c, n, j, m) = (
+            cells.as_mut_ptr(),
+            cells.len(),
+            journal.as_mut_ptr(),
+            journal.len(),
+        );
+        replied(unsafe { raw::pl_session_fill_column(self, c, n, j, m, x, z, height, id) }).map(|_| ())
+    }
+
+    /// Sets the cells of groups x, y, z, id, and answers how many were inside.
+    pub fn set_blocks(
+        &mut self,
+        cells: &mut [u16],
+        journal: &mut [u8],
+        edits: &[u32],
+    ) -> Result<usize, Refusal> {
+        let (c, n, j, m) = (
+            cells.as_mut_ptr(),
+            cells.len(),
+            journal.as_mut_ptr(),
+            journal.len(),
+        );
+        replied(unsafe { raw::pl_session_set_blocks(self, c, n, j, m, edits.as_ptr(), edits.len()) })
+    }
+
+    /// Takes the last active edit back.
+    pub fn undo(&mut self, cells: &mut [u16], journal: &mut [u8]) -> Result<(), Refusal> {
+        let (c, n, j, m) = (
+            cells.as_mut_ptr(),
+            cells.len(),
+            journal.as_mut_ptr(),
+            journal.len(),
+        );
+        replied(unsafe { raw::pl_session_undo(self, c, n, j, m) }).map(|_| ())
+    }
+}
+
+/// Lays the ground into cells, and answers its count.
+pub fn generate(config: Config, pos: Pos, cells: &mut [u16]) -> Result<u32, Refusal> {
+    answered(unsafe { raw::pl_generate(config, pos, cells.as_mut_ptr(), cells.len()) }).map(|n| n as u32)
+}
+
+/// The id of a cell.
+pub fn get(cells: &[u16], size: usize, [x, y, z]: [usize; 3]) -> Result<u16, Refusal> {
+    answered(unsafe { raw::pl_get(cells.as_ptr(), cells.len(), size, x, y, z) }).map(|id| id as u16)
+}
+
+/// Whether a cell is air.
+pub fn is_air(cells: &[u16], size: usize, [x, y, z]: [usize; 3]) -> Result<bool, Refusal> {
+    answered(unsafe { raw::pl_is_air(cells.as_ptr(), cells.len(), size, x, y, z) }).map(|n| n == 1)
+}
+
+/// Whether every cell is air.
+pub fn is_empty(cells: &[u16], size: usize) -> Result<bool, Refusal> {
+    answered(unsafe { raw::pl_is_empty(cells.as_ptr(), cells.len(), size) }).map(|n| n == 1)
+}
+
+/// Whether no cell is air.
+pub fn is_solid(cells: &[u16], size: usize) -> Result<bool, Refusal> {
+    answered(unsafe { raw::pl_is_solid(cells.as_ptr(), cells.len(), size) }).map(|n| n == 1)
+}
+
+/// Sets one cell, and answers the count.
+pub fn set(
+    cells: &mut [u16],
+    size: usize,
+    count: u32,
+    [x, y, z]: [usize; 3],
+    id: u16,
+) -> Result<u32, Refusal> {
+    let (c, n) = (cells.as_mut_ptr(), cells.len());
+    answered(unsafe { raw::pl_set(c, n, size, count, x, y, z, id) }).map(|n| n as u32)
+}
+
+/// Fills a column from y 0 up to a height, and answers the count.
+pub fn fill_column(
+    cells: &mut [u16],
+    size: usize,
+    count: u32,
+    [x, z]: [usize; 2],
+    height: usize,
+    id: u16,
+) -> Result<u32, Refusal> {
+    let (c, n) = (cells.as_mut_ptr(), cells.len());
+    answered(unsafe { raw::pl_fill_column(c, n, size, count, x, z, height, id) }).map(|n| n as u32)
+}
+
+/// Sets the cells of groups x, y, z, id, and answers how many were inside, and the count.
+pub fn set_blocks(
+    cells: &mut [u16],
+    size: usize,
+    count: u32,
+    edits: &[u32],
+) -> Result<(usize, u32), Refusal> {
+    let (c, n) = (cells.as_mut_ptr(), cells.len());
+    let answer = unsafe { raw::pl_set_blocks(c, n, size, count, edits.as_ptr(), edits.len()) };
+    refusal(answer.number, answer.line)?;
+    Ok((answer.written, answer.count))
+}
+
+/// Copies blocks over all cells, and answers their count.
+pub fn replace_blocks(cells: &mut [u16], size: usize, blocks: &[u16]) -> Result<u32, Refusal> {
+    let (c, n) = (cells.as_mut_ptr(), cells.len());
+    answered(unsafe { raw::pl_replace_blocks(c, n, size, blocks.as_ptr(), blocks.len()) }).map(|n| n as u32)
+}
+
+/// Copies the outermost layer on a face into a border of size * size.
+pub fn extract_border(cells: &[u16], size: usize, face: Face, border: &mut [u16]) -> Result<(), Refusal> {
+    let (c, n, b, m) = (cells.as_ptr(), cells.len(), border.as_mut_ptr(), border.len());
+    answered(unsafe { raw::pl_extract_border(c, n, size, face as u32, b, m) }).map(|_| ())
+}
+
+/// Lists each id present with its number of cells, and answers how many ids there are.
+pub fn tally(cells: &[u16], size: usize, ids: &mut [u16], counts: &mut [u32]) -> Result<usize, Refusal> {
+    let (i, m, k, l) = (ids.as_mut_ptr(), ids.len(), counts.as_mut_ptr(), counts.len());
+    answered(unsafe { raw::pl_tally(cells.as_ptr(), cells.len(), size, i, m, k, l) })
+}

@@ -1,0 +1,233 @@
+//! An example host: a fresh map, presses, a cut at every byte, and the next tablet takes over. A wrong answer or
+//! map ends it with a message and exit status 1.
+use perillahinge::{self as map, Config, Face, Pos, Refusal, Session};
+use std::process::ExitCode;
+
+const SIZE: usize = 4;
+const CELLS: usize = SIZE * SIZE * SIZE;
+const JOURNAL: usize = 512;
+
+/// One tablet: what the host keeps, and lends to each call.
+#[derive(Clone, PartialEq, Debug)]
+struct Tablet {
+    session: Session,
+    cells: Vec<u16>,
+    journal: Vec<u8>,
+}
+
+impl Tablet {
+    /// The map: the record, the cells, and the journal's used bytes.
+    fn map(&self) -> (Session, &[u16], &[u8]) {
+        (self.session, &self.cells, &self.journal[..self.session.used])
+    }
+
+    fn press(&mut self, press: &Press) -> Result<(), Refusal> {
+        let Tablet {
+            session,
+            cells,
+            journal,
+        } = self;
+        match *press {
+            Press::Set(at, id) => session.set(cells, journal, at, id),
+            Press::Column(at, height, id) => session.fill_column(cells, journal, at, height, id),
+            Press::Batch(edits) => session.set_blocks(cells, journal, edits).map(|_| ()),
+            Press::Undo => session.undo(cells, journal),
+        }
+    }
+}
+
+enum Press {
+    Set([usize; 3], u16),
+    Column([usize; 2], usize, u16),
+    Batch(&'static [u32]),
+    Undo,
+}
+
+/// A visit; each press appends one line.
+const VISIT: [Press; 7] = [
+    Press::Batch(&[3, 3, 3, 70000, 0, 9, 0, 1, 1, 1, 1, 12, 5]),
+    Press::Set([0, 1, 2], 8),
+    Press::Undo,
+    Press::Column([3, 0], 2, 0),
+    Press::Set([2, 2, 2], 65535),
+    Press::Undo,
+    Press::Undo,
+];
+
+fn check(holds: bool, what: &str) -> Result<(), String> {
+    if holds {
+        Ok(())
+    } else {
+        Err(what.to_string())
+    }
+}
+
+fn told<T>(answer: Result<T, Refusal>, what: &str) -> Result<T, String> {
+    answer.map_err(|r| format!("{what}: refused, {r:?}"))
+}
+
+fn nonzero(cells: &[u16]) -> u32 {
+    cells.iter().filter(|&&id| id != 0).count() as u32
+}
+
+fn begin() -> Result<Tablet, String> {
+    let config = Config {
+        seed: 65535,
+        sea_level: 30,
+        world_height_blocks: 48,
+        chunk_size: SIZE,
+    };
+    let pos = Pos { cx: 5, cy: 6, cz: -7 };
+    let (mut cells, mut journal) = (vec![0; CELLS], vec![0; JOURNAL]);
+    let session = told(map::fresh(config, pos, &mut cells, &mut journal), "fresh")?;
+    check(session.count == nonzero(&cells), "a fresh map is counted")?;
+    Ok(Tablet {
+        session,
+        cells,
+        journal,
+    })
+}
+
+/// The next tablet gets the first q bytes that were stored, then zeros; it must have the map of the last whole line.
+fn take_over(stored: &[u8], q: usize, maps: &[Tablet]) -> Result<(), String> {
+    let (mut cells, mut journal) = (vec![0xeeee; CELLS], vec![0; JOURNAL]);
+    journal[..q].copy_from_slice(&stored[..q]);
+    let held = (q + 9).min(JOURNAL);
+    let lines = stored[..q].iter().filter(|&&b| b == b'\n').count();
+    let answer = map::reopen(&mut cells, &journal, held);
+    if lines == 0 {
+        check(
+            answer == Err(Refusal::NoLine),
+            "without a whole line there is no map",
+        )?;
+        return check(cells.iter().all(|&id| id == 0xeeee), "a refusal leaves the cells");
+    }
+    let opened = told(answer, "reopening")?;
+    let committed = map::committed(&journal, held).len();
+    let mut next = Tablet {
+        session: opened.session,
+        cells,
+        journal,
+    };
+    let last = &maps[lines - 1];
+    check(next.map() == last.map(), "the map is that of the last whole line")?;
+    check(
+        opened.lines == lines && committed == opened.session.used,
+        "the lines that count",
+    )?;
+    check(opened.trailing == held - committed, "the bytes that do not")?;
+    told(next.press(&Press::Set([1, 2, 3], 99)), "going on")?;
+    check(
+        next.cells[1 + 2 * SIZE + 3 * SIZE * SIZE] == 99,
+        "a press on the next tablet",
+    )?;
+    told(next.press(&Press::Undo), "its undo")?;
+    check(next.cells == last.cells, "an undo brings the map back")
+}
+
+fn refusals(last: &Tablet) -> Result<(), String> {
+    let mut t = last.clone();
+    let outside = t.press(&Press::Set([0, SIZE, 0], 1));
+    check(outside == Err(Refusal::Outside), "a cell outside")?;
+    check(
+        t.press(&Press::Batch(&[0; 68])) == Err(Refusal::ManyGroups),
+        "a batch of 17",
+    )?;
+    check(t == *last, "a refusal changes nothing")?;
+    let mut border = [0; SIZE * SIZE];
+    let short = map::extract_border(&t.cells, SIZE, Face::NegZ, &mut border[1..]);
+    check(short == Err(Refusal::Length), "a border too short")?;
+    t.journal[0] = b'g';
+    let first = map::reopen(&mut t.cells, &t.journal, t.session.used);
+    check(first == Err(Refusal::FirstLine), "a file that is no journal")?;
+    check(
+        t.press(&Press::Undo) == Err(Refusal::UsedBytes),
+        "another's journal",
+    )?;
+    let bad = b"G\t0\t4096\t256\t2\t0\t128\t0\nU\n";
+    let answer = map::reopen(&mut [0; 8], bad, bad.len());
+    check(
+        answer == Err(Refusal::LaterLine(2)),
+        "an undo with nothing active",
+    )
+}
+
+/// The calls without a session, on the last map's cells.
+fn bare(last: &Tablet) -> Result<(), String> {
+    let mut cells = last.cells.clone();
+    let count = told(
+        map::set(&mut cells, SIZE, last.session.count, [3, 2, 0], 41),
+        "set",
+    )?;
+    check(
+        count == nonzero(&cells) && map::get(&cells, SIZE, [3, 2, 0]) == Ok(41),
+        "a cell set",
+    )?;
+    let count = told(
+        map::fill_column(&mut cells, SIZE, count, [0, 0], 99, 42),
+        "column",
+    )?;
+    check(
+        count == nonzero(&cells) && map::is_air(&cells, SIZE, [0, 3, 0]) == Ok(false),
+        "a column",
+    )?;
+    let (written, count) = told(
+        map::set_blocks(&mut cells, SIZE, count, &[0, 0, 0, 0, 9, 9, 9, 1]),
+        "batch",
+    )?;
+    check(written == 1 && count == nonzero(&cells), "a batch")?;
+    let mut border = [0; SIZE * SIZE];
+    told(
+        map::extract_border(&cells, SIZE, Face::PosX, &mut border),
+        "border",
+    )?;
+    check(border[2 * SIZE] == 41, "x is 3, y is 2, z is 0")?;
+    let (mut ids, mut counts) = ([0; CELLS], [0; CELLS]);
+    let n = told(map::tally(&cells, SIZE, &mut ids, &mut counts), "tally")?;
+    check(
+        counts[..n].iter().sum::<u32>() == count && ids[..n].contains(&41),
+        "a tally",
+    )?;
+    let air = map::replace_blocks(&mut cells, SIZE, &[0; CELLS]);
+    check(air == Ok(0) && map::is_empty(&cells, SIZE) == Ok(true), "all air")?;
+    check(map::is_solid(&cells, SIZE) == Ok(false), "air is not solid")?;
+    let ground = map::generate(last.session.config, last.session.pos, &mut cells);
+    check(ground == Ok(nonzero(&cells)), "the ground is counted")
+}
+
+fn run() -> Result<usize, String> {
+    let mut tablet = begin()?;
+    let mut maps = vec![tablet.clone()];
+    // Stored for certain: a file would be written and synced after each press.
+    let mut stored = tablet.journal[..tablet.session.used].to_vec();
+    for press in &VISIT {
+        told(tablet.press(press), "a press")?;
+        stored.extend_from_slice(&tablet.journal[stored.len()..tablet.session.used]);
+        check(tablet.session.count == nonzero(&tablet.cells), "the count")?;
+        maps.push(tablet.clone());
+    }
+    check(tablet.press(&Press::Undo).is_ok(), "one edit is active still")?;
+    check(
+        tablet.press(&Press::Undo) == Err(Refusal::NothingActive),
+        "then none is",
+    )?;
+    for q in 0..=stored.len() {
+        take_over(&stored, q, &maps)?;
+    }
+    refusals(&maps[VISIT.len()])?;
+    bare(&maps[VISIT.len()])?;
+    Ok(stored.len())
+}
+
+fn main() -> ExitCode {
+    match run() {
+        Ok(n) => {
+            println!("host in Rust: {n} bytes, a cut at each, the map is there");
+            ExitCode::SUCCESS
+        }
+        Err(what) => {
+            eprintln!("host in Rust: not so: {what}");
+            ExitCode::FAILURE
+        }
+    }
+}

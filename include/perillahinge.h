@@ -1,0 +1,229 @@
+/* Perillahinge: a block map for shared tablets, proved. The C interface, for C99 and C++11.
+ *
+ * Every function returns, whatever numbers, bytes and records it is given, and touches only the memory that it is
+ * lent. None keeps anything between calls, takes memory of its own, or reads a clock or a file: two threads may
+ * call at the same time on different buffers.
+ *
+ * What a host must keep to (no proof sees it):
+ *   - A buffer is a pointer and a length, counted in elements. The pointer is aligned for its element type and
+ *     good for that many; with length 0 it may be NULL. A record lent by pointer is not NULL.
+ *   - What a call may write overlaps with nothing else that the same call is lent.
+ *   - Between the calls of a session nobody else writes to its cells, its record, or the journal's used bytes.
+ *
+ * An answer has a number: 0, or why the call was refused (enum pl_number). A refused call changes nothing: record
+ * and buffers are as they were, and the other numbers of the answer are 0, but for the line of 11 and 12. Where
+ * more than one cause holds, the one that the function's comment names first answers.
+ */
+#ifndef PERILLAHINGE_H
+#define PERILLAHINGE_H
+
+#include <stddef.h>
+#include <stdint.h>
+
+#if !defined(__x86_64__)
+#error "the archive is built for x86-64 only"
+#endif
+
+#ifdef __cplusplus
+extern "C" {
+#endif
+
+/* Why a call was refused. README.md says what a host does then. */
+enum pl_number {
+    PL_OK = 0,
+    PL_SIZE = 1,            /* size not 1 to 64 */
+    PL_SEED = 2,            /* seed above 65,535 */
+    PL_SEA_LEVEL = 3,       /* sea level not -4,096 to 4,096 */
+    PL_WORLD_HEIGHT = 4,    /* world height not 2 to 4,096 */
+    PL_PLACE = 5,           /* a cell of the chunk would lie beyond a million */
+    PL_LENGTH = 6,          /* cells, or what replaces them or takes the border, of a wrong length */
+    PL_OUTSIDE = 7,         /* cell outside the chunk */
+    PL_MANY_GROUPS = 8,     /* a session's batch above 16 whole groups */
+    PL_JOURNAL_LENGTH = 9,  /* journal over 32,768 bytes, or more held bytes than it is long */
+    PL_NO_LINE = 10,        /* no whole line among the held bytes */
+    PL_FIRST_LINE = 11,     /* first line not of its form */
+    PL_LATER_LINE = 12,     /* a later line not of its form, or one that may not stand there */
+    PL_TALLY_LISTS = 13,    /* tally lists shorter than the ids present */
+    PL_RECORD = 21,         /* a record that cannot be, or a count that does not belong to these cells */
+    PL_USED_BYTES = 22,     /* undo: the used bytes are not this record's journal */
+    PL_NOTHING_ACTIVE = 23, /* undo: nothing is active */
+    PL_FULL = 24,           /* no space for the line, or 256 edits active */
+    PL_FACE = 99            /* this interface alone: a number that names no face */
+};
+
+enum pl_limit {
+    PL_SIZE_MOST = 64,
+    PL_JOURNAL_MOST = 32768,
+    PL_ACTIVE_MOST = 256,
+    PL_GROUPS_MOST = 16,
+    PL_HEADER_MOST = 48 /* bytes of a first line with its LF, at most */
+};
+
+/* The six faces of a chunk. */
+enum pl_face { PL_POS_X = 0, PL_NEG_X = 1, PL_POS_Y = 2, PL_NEG_Y = 3, PL_POS_Z = 4, PL_NEG_Z = 5 };
+
+/* Settings: seed 0 to 65,535; sea level -4,096 to 4,096; world height 2 to 4,096; size 1 to 64. */
+typedef struct pl_config {
+    uint32_t seed;
+    int32_t sea_level;
+    int32_t world_height_blocks;
+    size_t chunk_size;
+} pl_config;
+
+/* The place of a chunk. Each number times the size is at least -1,000,000, that plus size - 1 at most 1,000,000. */
+typedef struct pl_pos {
+    int32_t cx;
+    int32_t cy;
+    int32_t cz;
+} pl_pos;
+
+/* A session's record: settings, place, number of nonzero cells, used bytes of the journal, active edits. The host
+ * keeps it and lends it; it need not be stored, since reopening makes it anew from the journal. */
+typedef struct pl_session {
+    pl_config config;
+    pl_pos pos;
+    uint32_t count;
+    size_t used;
+    size_t active;
+} pl_session;
+
+/* The answer of a session's edit or undo. line is 0; written is the number of groups that a batch wrote, else 0. */
+typedef struct pl_reply {
+    uint32_t number;
+    size_t line;
+    size_t written;
+} pl_reply;
+
+/* The answer of a call on bare cells. line is 0; the function's comment says what value is. */
+typedef struct pl_answer {
+    uint32_t number;
+    size_t line;
+    size_t value;
+} pl_answer;
+
+/* The answer of a batch on bare cells: the groups written, and the count after them. */
+typedef struct pl_batch_answer {
+    uint32_t number;
+    size_t line;
+    size_t written;
+    uint32_t count;
+} pl_batch_answer;
+
+/* The answer of a fresh session or of reopening: the record, the number of whole lines, the first included, and of
+ * bytes after the last of them. Where it is refused the record is all zeros, and every edit with it gets 21. */
+typedef struct pl_start {
+    pl_session session;
+    uint32_t number;
+    size_t line;
+    size_t lines;
+    size_t trailing;
+} pl_start;
+
+/* The layout that the archive has; a compiler that lays a record out otherwise stops here. */
+typedef char pl_config_layout[sizeof(pl_config) == 24 && offsetof(pl_config, chunk_size) == 16 ? 1 : -1];
+typedef char pl_session_layout[sizeof(pl_session) == 56 && offsetof(pl_session, pos) == 24 &&
+                                       offsetof(pl_session, count) == 36 && offsetof(pl_session, used) == 40
+                                   ? 1
+                                   : -1];
+typedef char pl_reply_layout[sizeof(pl_reply) == 24 && offsetof(pl_reply, line) == 8 ? 1 : -1];
+typedef char pl_answer_layout[sizeof(pl_answer) == 24 && offsetof(pl_answer, line) == 8 ? 1 : -1];
+typedef char pl_batch_layout[sizeof(pl_batch_answer) == 32 && offsetof(pl_batch_answer, count) == 24 ? 1 : -1];
+typedef char pl_start_layout[sizeof(pl_start) == 88 && offsetof(pl_start, number) == 56 ? 1 : -1];
+
+/* ---- Sessions: edits are kept in a journal, lent with the cells. Cell (x, y, z) is at x + y * size + z * size *
+ * size. A journal buffer has at most 32,768 bytes; an accepted call with a line writes behind the used bytes alone. */
+
+/* Lays the ground into cells (size * size * size long) and writes the first line to the journal's start. No edit is
+ * active; lines is 1. Refused: 9, 1 to 6, 24 (the first line does not fit). */
+pl_start pl_session_fresh(pl_config config, pl_pos pos, uint16_t *cells, size_t cells_len, uint8_t *journal,
+                          size_t journal_len);
+
+/* Sets one cell, and appends a line. Refused: 21, 7, 21 (the count), 24. */
+pl_reply pl_session_set(pl_session *session, uint16_t *cells, size_t cells_len, uint8_t *journal,
+                        size_t journal_len, size_t x, size_t y, size_t z, uint16_t id);
+
+/* Fills a column from y 0 up to a height, which is clipped to the size, and appends a line. With x or z outside it
+ * is accepted, changes nothing and has no line. Refused: 21, 21 (the count), 24. */
+pl_reply pl_session_fill_column(pl_session *session, uint16_t *cells, size_t cells_len, uint8_t *journal,
+                                size_t journal_len, size_t x, size_t z, size_t height, uint16_t id);
+
+/* Sets the cells of groups x, y, z, id in their order, and appends one line for all. edits_len counts numbers, four
+ * to a group; one to three left over are ignored, an id counts modulo 65,536, a group outside is skipped. Where none
+ * is inside it is accepted, changes nothing and has no line. Refused: 21, 8, 21 (the count), 24. */
+pl_reply pl_session_set_blocks(pl_session *session, uint16_t *cells, size_t cells_len, uint8_t *journal,
+                               size_t journal_len, const uint32_t *edits, size_t edits_len);
+
+/* Takes the last active edit back: the cells are laid anew without it, and a line is appended. Refused: 21, 22, 23,
+ * 24 (fewer than 2 bytes left). */
+pl_reply pl_session_undo(pl_session *session, uint16_t *cells, size_t cells_len, uint8_t *journal,
+                         size_t journal_len);
+
+/* Takes a map over from the first held bytes of a journal: lays the ground and the active edits into cells. Bytes
+ * after the last whole line are counted in trailing and ignored. The journal is only read; to go on, lend it to the
+ * session's calls, which write behind session.used. Refused: 9, 10, 11 (line 1), 1 to 5, 6, 12 (with its line,
+ * counted from 1). */
+pl_start pl_session_reopen(uint16_t *cells, size_t cells_len, const uint8_t *journal, size_t journal_len, size_t held);
+
+/* How many of the held bytes count: those through the last LF; 0 where there is none or 9 holds. Never refused. */
+size_t pl_committed_len(const uint8_t *journal, size_t journal_len, size_t held);
+
+/* ---- Cells without a session. size is 1 to 64; count is the number of nonzero cells, which the host keeps. */
+
+/* Lays the ground into cells. Value: the count. Refused: 1 to 6. */
+pl_answer pl_generate(pl_config config, pl_pos pos, uint16_t *cells, size_t cells_len);
+
+/* Value: the id of a cell. Refused: 1, 6, 7. */
+pl_answer pl_get(const uint16_t *cells, size_t cells_len, size_t size, size_t x, size_t y, size_t z);
+
+/* Value: 1 if the cell is air (0), else 0. Refused: 1, 6, 7. */
+pl_answer pl_is_air(const uint16_t *cells, size_t cells_len, size_t size, size_t x, size_t y, size_t z);
+
+/* Value: 1 if every cell is air, else 0. Refused: 1, 6. */
+pl_answer pl_is_empty(const uint16_t *cells, size_t cells_len, size_t size);
+
+/* Value: 1 if no cell is air, else 0. Refused: 1, 6. */
+pl_answer pl_is_solid(const uint16_t *cells, size_t cells_len, size_t size);
+
+/* Sets one cell. Value: the count. Refused: 1, 6, 7, 21 (the count). */
+pl_answer pl_set(uint16_t *cells, size_t cells_len, size_t size, uint32_t count, size_t x, size_t y, size_t z,
+                 uint16_t id);
+
+/* Fills a column from y 0 up to a height, clipped to the size; with x or z outside it changes nothing. Value: the
+ * count. Refused: 1, 6, 21 (the count). */
+pl_answer pl_fill_column(uint16_t *cells, size_t cells_len, size_t size, uint32_t count, size_t x, size_t z,
+                         size_t height, uint16_t id);
+
+/* Sets the cells of any number of groups x, y, z, id, as pl_session_set_blocks does. Its time grows with the square
+ * of their number. Refused: 1, 6, 21 (the count). */
+pl_batch_answer pl_set_blocks(uint16_t *cells, size_t cells_len, size_t size, uint32_t count, const uint32_t *edits,
+                              size_t edits_len);
+
+/* Copies blocks over all cells. Value: the count. Refused: 1, 6 (either length). */
+pl_answer pl_replace_blocks(uint16_t *cells, size_t cells_len, size_t size, const uint16_t *blocks,
+                            size_t blocks_len);
+
+/* Copies the outermost layer on a face (enum pl_face) into border, size * size long. The k-th is the cell at
+ * (x, y, z) with, for the X faces, z = k % size, y = k / size; for the Y faces, x = k % size, z = k / size; for the
+ * Z faces, x = k % size, y = k / size. Value: 0. Refused: 99, 1, 6 (either length). */
+pl_answer pl_extract_border(const uint16_t *cells, size_t cells_len, size_t size, uint32_t face, uint16_t *border,
+                            size_t border_len);
+
+/* Lists each nonzero id present, once, in ids, and its number of cells at the same place in counts; the order is
+ * free, and places past them are left as they were. Value: how many ids. Refused: 1, 6, 13 (either list). */
+pl_answer pl_tally(const uint16_t *cells, size_t cells_len, size_t size, uint16_t *ids, size_t ids_len,
+                   uint32_t *counts, size_t counts_len);
+
+/* ---- The noise under the ground, for comparisons: they answer for every number, NaN and infinities too. */
+
+float pl_hash2(int32_t x, int32_t y);
+float pl_hash3(int32_t x, int32_t y, int32_t z);
+float pl_noise2d(float x, float y);
+float pl_noise3d(float x, float y, float z);
+float pl_fbm2d(float x, float y, uint32_t octaves);
+float pl_fbm3d(float x, float y, float z, uint32_t octaves);
+
+#ifdef __cplusplus
+}
+#endif
+
+#endif
