@@ -1,18 +1,21 @@
 -- What an example is: what a definition gives at some arguments, and the value that 01 names. Assumes nothing.
 use mathlib.Core.Path.{_≡_}
 use mathlib.Core.List.{List, [], _∷_, _++_}
-use Prim.Native.Nat.{ℕ}
+use Prim.Native.Nat.{ℕ, _≤_}
+use lib.ListN.{length}
 use lib.IntN.{ℤ}
 use lib.Ieee.{Float}
 
 -- a case for each kind of value: an f32, an integer, a number (an id, a count, a radius, a refusal), bytes or ids in a row,
--- and an integer that is the same for every column, sea level and seed offset
+-- an integer that is the same for every column, sea level and seed offset, and a text that is the same for all cells and
+-- buffers that the program may lend
 pub data Example : Type 0 where
   float : Float → Float → Example
   integer : ℤ → ℤ → Example
   number : ℕ → ℕ → Example
   text : List ℕ → List ℕ → Example
   everywhere : (ℤ → ℤ → ℤ → Float → ℤ) → ℤ → Example
+  printed : (List ℕ → List ℕ → List ℕ) → List ℕ → Example
 
 -- an example holds where the definition gives what 01 says
 abbrev pub holds : Example → Type 0
@@ -21,6 +24,7 @@ holds (integer a b) = a ≡ b
 holds (number a b) = a ≡ b
 holds (text a b) = a ≡ b
 holds (everywhere f b) = (wx wz sea : ℤ) (offset : Float) → f wx wz sea offset ≡ b
+holds (printed f b) = (cells out : List ℕ) → 4096 ≤ length cells → 25000 ≤ length out → f cells out ≡ b
 
 -- every entry of a table holds
 infixr 5 _and_

@@ -8,8 +8,9 @@ use lib.Ieee.{nan, ofInt, div, neg, toSigned}
 use Rattle.words.specs.Wrap.{modZ, wrapW, mulW, shiftW}
 use Rattle.words.specs.Num.{nearest, floor₃₂, toI32}
 use Rattle.noise.specs.Hash.{unit31}
+use Rattle.listing.specs.Listing.{listingText, listingPrinted, listing-printed}
 use Rattle.examples.specs.Ground.{rows-d, rows-e, rows-f, rows-g, rows-h, rows-i, rows-j, holds-d, holds-e, holds-f, holds-g, holds-h, holds-i, holds-j}
-use Rattle.examples.specs.Example.{Example, float, integer, AllHold, end, _and_, both}
+use Rattle.examples.specs.Example.{Example, float, integer, printed, AllHold, end, _and_, both}
 
 -- a. "31-bit numbers 0; 16,777,217; 2,147,483,583; 2,147,483,584 give 0; 2^-7; 1 - 2^-24; 1."
 abbrev pub rows-a : List Example
@@ -35,6 +36,10 @@ rows-c =
     ∷ integer (mulW (pos 65536) (pos 65536)) (pos 0)
     ∷ []
 
+-- k. "The listing above.": what `report` leaves for the program to print
+abbrev pub rows-k : List Example
+rows-k = printed listingPrinted listingText ∷ []
+
 -- Not marked, but asked for: the shift is "exact at -1 and both ends", by 13 and by 16
 abbrev pub rows-shift : List Example
 rows-shift =
@@ -47,7 +52,7 @@ rows-shift =
 
 abbrev pub table : List Example
 table =
-    rows-a ++ (rows-b ++ (rows-c ++ (rows-d ++ (rows-e ++ (rows-f ++ (rows-g ++ (rows-h ++ (rows-i ++ (rows-j ++ rows-shift)))))))))
+    rows-a ++ (rows-b ++ (rows-c ++ (rows-d ++ (rows-e ++ (rows-f ++ (rows-g ++ (rows-h ++ (rows-i ++ (rows-j ++ (rows-k ++ rows-shift))))))))))
 
 holds-a : AllHold rows-a
 unfolding unit31 ofInt div nearest
@@ -60,6 +65,9 @@ holds-b = refl and refl and refl and end
 holds-c : AllHold rows-c
 unfolding mulW wrapW modZ
 holds-c = refl and refl and end
+
+holds-k : AllHold rows-k
+holds-k = _and_ {e = printed listingPrinted listingText} listing-printed end
 
 holds-shift : AllHold rows-shift
 holds-shift = refl and refl and refl and refl and refl and end
@@ -76,4 +84,5 @@ marked =
     (both holds-g
     (both holds-h
     (both holds-i
-    (both holds-j holds-shift)))))))))
+    (both holds-j
+    (both holds-k holds-shift))))))))))

@@ -1,0 +1,4 @@
+// A first line without its LF.
+fn main() {
+    program::open_map();
+}

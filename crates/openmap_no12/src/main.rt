@@ -1,0 +1,4 @@
+// The third line's column is higher than the chunk.
+fn main() {
+    program::open_map();
+}
