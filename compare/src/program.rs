@@ -23,12 +23,45 @@ fn printed(program: &Path, input: &[u8]) -> std::io::Result<Vec<u8>> {
     Ok(child.wait_with_output()?.stdout)
 }
 
-/// Journals for the program: the held bytes are all that it is given. Some name a size above 16.
-fn input(rng: &mut Rng) -> Vec<u8> {
+/// A map of a size that the session's lists don't have: up to the program's largest, and above it.
+fn large(rng: &mut Rng) -> Vec<u8> {
+    let size: u64 = rng.pick(&[7, 11, 15, 16, 16, 16, 17, 64, 65]);
+    let cy = rng.pick(&[0, 1, 2, -1]);
+    let mut text = format!("G\t{}\t24\t256\t{size}\t0\t{cy}\t0\n", rng.below(65_536));
+    for _ in 0..rng.below(8) {
+        let [x, z, height] = std::array::from_fn(|_| rng.below(size));
+        text.push_str(&format!("C\t{x}\t{z}\t{height}\t{}\n", rng.below(65_536)));
+    }
+    if rng.once_in(4) {
+        text.push_str("X\n");
+    }
+    text.into_bytes()
+}
+
+/// The longest text, from the most edits: each column of a chunk of size 16 has an id of five digits.
+fn longest() -> Vec<u8> {
+    let mut text = String::from("G\t0\t24\t256\t16\t0\t0\t0\n");
+    for k in 0..256 {
+        text.push_str(&format!("C\t{}\t{}\t16\t{}\n", k % 16, k / 16, 65_280 + k));
+    }
+    text.into_bytes()
+}
+
+/// Journals for the program: the held bytes are all that it is given.
+fn input(rng: &mut Rng, run: u64) -> Vec<u8> {
+    match run {
+        0 => return Vec::new(),
+        1 => return longest(),
+        _ => (),
+    }
     let (mut journal, held) = journals::journal(rng);
     journal.truncate(held);
+    if rng.once_in(12) {
+        journal = large(rng);
+    }
     if rng.once_in(40) {
-        journal = format!("G\t0\t24\t256\t{}\t0\t1\t0\nX\n", rng.pick(&[16, 17, 64, 65])).into_bytes();
+        let tail = rng.pick(b"\0\nS");
+        journal.resize(rng.pick(&[32_767, 32_768, 32_769, 40_000, 70_000]), tail);
     }
     journal
 }
@@ -42,8 +75,8 @@ pub fn run(report: &mut Report) {
         return;
     }
     let mut rng = Rng::new(9);
-    for _ in 0..RUNS {
-        let journal = input(&mut rng);
+    for run in 0..RUNS {
+        let journal = input(&mut rng, run);
         let wanted = model::report(&journal);
         match printed(program, &journal) {
             Ok(text) => report.same(text == wanted.as_bytes(), || {

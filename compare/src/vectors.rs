@@ -191,6 +191,53 @@ fn sites() -> Vec<Site> {
             ..usual
         }));
     }
+    all.extend(borders(&mut rng, usual));
+    all
+}
+
+/// Chunks on both sides of the two places from which on one block fills a chunk: the highest cell
+/// at -8 and -7 under a desert of height 1; the lowest cell 5 and 4 above the greatest height, with
+/// the sea below, at and above it, and 3 above it, where a boulder of 4 ends.
+fn borders(rng: &mut Rng, usual: Site) -> Vec<Site> {
+    let mut all = vec![];
+    let desert = Site {
+        world_height_blocks: 2,
+        chunk_size: 1,
+        ..usual
+    };
+    let desert = in_biome(rng, desert, Biome::Desert);
+    for (chunk_size, cy) in [(1, -8), (1, -7), (7, -2), (6, -2), (3, -3), (2, -4)] {
+        let n = chunk_size as i32;
+        all.push(Site {
+            chunk_size,
+            cx: desert.cx.div_euclid(n),
+            cy,
+            cz: desert.cz.div_euclid(n),
+            ..desert
+        });
+    }
+    let above = Site {
+        chunk_size: 16,
+        cy: 3,
+        ..usual
+    };
+    for (sea_level, world_height_blocks) in [(24, 44), (48, 44), (49, 44), (24, 45)] {
+        let s = Site {
+            sea_level,
+            world_height_blocks,
+            ..above
+        };
+        all.push(in_biome(rng, s, Biome::Mountain));
+    }
+    let peaks = Site {
+        world_height_blocks: 46,
+        ..above
+    };
+    let mut s = in_biome(rng, peaks, Biome::Mountain);
+    while rust_ground(&s).1 == 0 {
+        s = in_biome(rng, peaks, Biome::Mountain);
+    }
+    all.push(s);
     all
 }
 

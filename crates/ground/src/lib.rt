@@ -15,8 +15,13 @@ use features::tree::place_trees;
 use grid::count_non_air;
 use terrain::base::lay_base;
 use terrain::base::note_tops;
+use terrain::block::AIR;
+use terrain::block::STONE;
 use terrain::world::Frame;
 use terrain::world::World;
+use uniform::fill;
+use uniform::is_deep;
+use uniform::is_sky;
 
 // The number of cells that are not air, or the number of the refusal.
 pub enum Generated {
@@ -36,6 +41,22 @@ fn lay(w: World, o: Frame, cells: &mut [u16])
     place_boulders(o, &heights, &biomes, cells);
     let sea = w.sea_level;
     place_trees(o, sea, &heights, &biomes, cells);
+}
+
+// By place alone where one block fills the chunk: then no noise is taken.
+fn lay_chunk(w: World, o: Frame, cells: &mut [u16])
+    requires { ⌜ Tall w × Near o × Cube (o .size) (now cells) ⌝ }
+    ensures { λ _. ⌜ now (cells .exit) ≡ groundIn w o ⌝ }
+{
+    if is_deep(o) {
+        fill(cells, STONE);
+        return;
+    }
+    if is_sky(w, o) {
+        fill(cells, AIR);
+        return;
+    }
+    lay(w, o, cells);
 }
 
 // The first cell of a chunk along an axis.
@@ -95,6 +116,6 @@ pub fn generate(config: TerrainConfig, pos: ChunkPos, cells: &mut [u16]) -> Gene
     }
     let w = world_of(config);
     let o = frame_of(config, pos);
-    lay(w, o, cells);
+    lay_chunk(w, o, cells);
     Generated::Count(count_non_air(cells) as u32)
 }

@@ -14,6 +14,7 @@ use Rattle.tally.specs.Tally.{Tallied}
 use Rattle.host.specs.declared.Answer.{Answer}
 use Rattle.host.specs.declared.BatchAnswer.{BatchAnswer}
 
+-- an answer in C of a number, a line and a value
 abbrev pub answer : ℕ → ℕ → ℕ → Answer
 answer number line value = record { number = number; line = line; value = value }
 
@@ -22,6 +23,7 @@ abbrev pub firstOf : List ℕ → ℕ
 firstOf [] = 0
 firstOf (v ∷ vs) = v
 
+-- .. and the second
 abbrev pub secondOf : List ℕ → ℕ
 secondOf [] = 0
 secondOf (v ∷ vs) = firstOf vs
@@ -43,6 +45,7 @@ pub record Answered : Type 0 where
 abbrev pub answered : Answer → List ℕ → Answered
 answered a c = record { reply = a; cells = c }
 
+-- a call on cells, as C sees it
 abbrev pub editInC : Outcome → Answered
 editInC o = answered (answerOf (o .reply)) (o .cells)
 
@@ -53,6 +56,7 @@ pub record BatchAnswered : Type 0 where
 abbrev pub batchAnswered : BatchAnswer → List ℕ → BatchAnswered
 batchAnswered a c = record { reply = a; cells = c }
 
+-- a batch on cells, as C sees it
 abbrev pub batchInC : Outcome → BatchAnswered
 batchInC o = batchAnswered (batchAnswerOf (o .reply)) (o .cells)
 
@@ -61,11 +65,13 @@ abbrev pub groundAnswer : Ground → Answer
 groundAnswer (groundCount n) = answer 0 0 n
 groundAnswer (noGround number line) = answer number line 0
 
+-- `generate`, as C sees it
 abbrev pub generateInC : Generated → Answered
 generateInC o = answered (groundAnswer (o .answer)) (o .cells)
 
--- ---- the border: a face is a number, in the order of the Rust
+-- ---- the border
 
+-- a face is a number, 0 to 5 in the order of the Rust
 abbrev pub faceOf : ℕ → Option Face
 faceOf zero = some PosX
 faceOf (suc zero) = some NegX
@@ -82,6 +88,7 @@ pub record BorderAnswered : Type 0 where
 abbrev pub borderAnswered : Answer → List ℕ → BorderAnswered
 borderAnswered a b = record { reply = a; border = b }
 
+-- the border of a face, as C sees it
 abbrev pub borderInC : Bordered → BorderAnswered
 borderInC o = borderAnswered (answerOf (o .reply)) (o .border)
 
@@ -90,11 +97,13 @@ abbrev pub borderAt : Option Face → ℕ → List ℕ → List ℕ → BorderAn
 borderAt (some face) size c b = borderInC (borderDoes face size c b)
 borderAt none size c b = borderAnswered (answer 99 0 0) b
 
+-- `extract_border` of a number
 unfoldable pub borderInCDoes : ℕ → ℕ → List ℕ → List ℕ → BorderAnswered
 borderInCDoes n size c b = borderAt (faceOf n) size c b
 
--- ---- the tally: its lists are free in their order, so its promise is a relation
+-- ---- the tally
 
+-- its lists are free in their order, so that its promise is a relation: the answer is that of a reply which `Tallied` allows
 pub record TalliedInC (size : ℕ) (c : List ℕ) (r : Answer) (ids counts ids′ counts′ : List ℕ) : Type 0 where
   pub reply : Reply
   pub is : r ≡ answerOf reply

@@ -21,17 +21,20 @@ noSession =
     0
     0
 
+-- a session with the number of its journal's whole lines and trailing bytes
 abbrev pub started : Session → ℕ → ℕ → Start
 started s lines trailing = record { session = s; number = 0; line = 0; lines = lines; trailing = trailing }
 
+-- a refusal: its number and line
 abbrev pub notStarted : ℕ → ℕ → Start
 notStarted number line = record { session = noSession; number = number; line = line; lines = 0; trailing = 0 }
 
--- a fresh session's journal is its first line
+-- 01's number, line and values of each case of a fresh session, whose journal is its first line
 abbrev pub freshStart : Fresh → Start
 freshStart (Started s) = started s 1 0
 freshStart (NotStarted number line) = notStarted number line
 
+-- .. and of a reopening
 abbrev pub reopenStart : Reopened → Start
 reopenStart (Opened s lines trailing) = started s lines trailing
 reopenStart (NotOpened number line) = notStarted number line
@@ -46,6 +49,7 @@ pub record FreshInC : Type 0 where
 abbrev pub begunInC : Start → List ℕ → List ℕ → FreshInC
 begunInC a c j = record { start = a; cells = c; journal = j }
 
+-- a fresh session, as C sees it
 abbrev pub freshInC : Begun → FreshInC
 freshInC b = begunInC (freshStart (b .answer)) (b .cells) (b .journal)
 
@@ -56,6 +60,7 @@ pub record ReopenInC : Type 0 where
 abbrev pub resumedInC : Start → List ℕ → ReopenInC
 resumedInC a c = record { start = a; cells = c }
 
+-- a reopening, as C sees it
 abbrev pub reopenInC : Resumed → ReopenInC
 reopenInC b = resumedInC (reopenStart (b .answer)) (b .cells)
 

@@ -104,6 +104,7 @@ pub extern "C" fn pl_fbm3d(x: f32, y: f32, z: f32, octaves: u32) -> f32
     noise::fbm3d(x, y, z, octaves)
 }
 
+// An accepted call's answer.
 fn accepted(value: usize) -> Answer
     ensures { λ r. ⌜ r ≡ answer 0 0 value ⌝ }
 {
@@ -114,6 +115,7 @@ fn accepted(value: usize) -> Answer
     }
 }
 
+// A refusal: its line is 0, and it has no value.
 fn refused(number: u32) -> Answer
     ensures { λ r. ⌜ r ≡ answer number 0 0 ⌝ }
 {
@@ -124,6 +126,7 @@ fn refused(number: u32) -> Answer
     }
 }
 
+// Each answer of the library in C: one function for each kind.
 fn ground_answer(a: Generated) -> Answer
     ensures { λ r. ⌜ r ≡ groundAnswer (reply a) ⌝ }
 {

@@ -52,9 +52,9 @@ frame-of-requires c κs =
     let q : Sound s p (length cs) = sound s p (length cs) z in
     q .within
 
-lay-requires : tie.Need-lay-requires
+lay-chunk-requires : tie.Need-lay-chunk-requires
 unfolding frameOf
-lay-requires c κs =
+lay-chunk-requires c κs =
     let a = c .before .before .before .before .before .before .args in
     let s = a .config in
     let p = a .pos in
@@ -76,8 +76,8 @@ cast-t14 c =
     let e : c .before .before .before .before .before .before .before .before .before .refusal-of .result ≡ generateRefusal s p (length cs) = c .before .before .before .before .before .before .before .before .before .refusal-of .ensures in
     let z : generateRefusal s p (length cs) ≡ 0 = sym e ∙ c .before .before .before .before .before .before .before .before .if1 .left in
     let q : Sound s p (length cs) = sound s p (length cs) z in
-    let laid = c .before .before .before .before .lay .last .1 .1 .0 in
-    let l : length laid ≡ length cs = c .before .before .before .before .lay .kept .1 .1 .0 in
+    let laid = c .before .before .before .before .lay-chunk .last .1 .1 .0 in
+    let l : length laid ≡ length cs = c .before .before .before .before .lay-chunk .kept .1 .1 .0 in
     let k : c .count-non-air .result ≡ nonAirCount laid = c .count-non-air .ensures in
     let most = count-most laid in
     let cube = cube-most (s .«chunk_size») (q .within .most) in
@@ -97,8 +97,8 @@ returns-2 c =
     let e : c .before .before .before .before .before .before .before .before .before .refusal-of .result ≡ generateRefusal s p (length cs) = c .before .before .before .before .before .before .before .before .before .refusal-of .ensures in
     let z : generateRefusal s p (length cs) ≡ 0 = sym e ∙ c .before .before .before .before .before .before .before .before .if1 .left in
     let q : Sound s p (length cs) = sound s p (length cs) z in
-    let laid = c .before .before .before .before .lay .last .1 .1 .0 in
-    let g : laid ≡ groundIn (worldOf s) (frameOf s p) = c .before .before .before .before .lay .ensures ∙ ap₂ groundIn (c .before .before .before .before .before .before .before .world-of .ensures) (c .before .before .before .before .before .before .frame-of .ensures) in
+    let laid = c .before .before .before .before .lay-chunk .last .1 .1 .0 in
+    let g : laid ≡ groundIn (worldOf s) (frameOf s p) = c .before .before .before .before .lay-chunk .ensures ∙ ap₂ groundIn (c .before .before .before .before .before .before .before .world-of .ensures) (c .before .before .before .before .before .before .frame-of .ensures) in
     rw (eq-eqb (generateRefusal s p (length cs)) 0 z)
     (ap (λ (k : ℕ). outcome (accepted k) laid) (c .count-non-air .ensures) ∙ ap (λ (d : List ℕ). outcome (accepted (nonAirCount d)) d) g)
 
@@ -110,7 +110,7 @@ generate-spec =
     returns
     world-of-requires
     frame-of-requires
-    lay-requires
+    lay-chunk-requires
     count-non-air-requires
     cast-t14
     same-length

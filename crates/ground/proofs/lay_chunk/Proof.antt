@@ -1,0 +1,70 @@
+-- `ground::lay_chunk` meets its contract. Assumes nothing.
+use borrow.Author.Needs.{needs}
+use mathlib.Core.Path.{sym, ap, _∙_}
+use Prim.Native.Nat.{ℕ}
+use Rattle.uniform.specs.Place.{allOf}
+use Rattle.uniform.specs.Laws.{ground-deep, ground-sky}
+use Rattle.ground.specs.Ground.{groundIn}
+use Rattle.ground.proofs.lay_chunk.Statement.{statement}
+use Rattle.ground.proofs.lay_chunk.Tie as tie
+
+is-deep-requires : tie.Need-is-deep-requires
+is-deep-requires c κs = search needs
+
+fill-requires : tie.Need-fill-requires
+fill-requires c κs = search needs
+
+same-length : tie.Need-same-length
+same-length c = search needs
+
+returns : tie.Need-returns
+unfolding groundIn
+returns c =
+    let s = c .before .before .before .before .before .before .before in
+    let w = s .args .w in
+    let o = s .args .o in
+    let deep = sym (c .before .before .before .before .before .is-deep .ensures) ∙ c .before .before .before .before .if1 .taken in
+    c .before .before .fill .ensures ∙ ap (λ (n : ℕ). allOf n 1) (s .pre .2 .all) ∙ sym (ground-deep w o (s .pre .0) (s .pre .1) deep)
+
+is-sky-requires : tie.Need-is-sky-requires
+is-sky-requires c κs = search needs
+
+fill-requires-2 : tie.Need-fill-requires-2
+fill-requires-2 c κs = search needs
+
+same-length-2 : tie.Need-same-length-2
+same-length-2 c = search needs
+
+returns-2 : tie.Need-returns-2
+unfolding groundIn
+returns-2 c =
+    let s = c .before .before .before .before .before .before .before .before .before in
+    let w = s .args .w in
+    let o = s .args .o in
+    let sky = sym (c .before .before .before .before .before .is-sky .ensures) ∙ c .before .before .before .before .if2 .taken in
+    c .before .before .fill2 .ensures ∙ ap (λ (n : ℕ). allOf n 0) (s .pre .2 .all) ∙ sym (ground-sky w o (s .pre .0) (s .pre .1) sky)
+
+lay-requires : tie.Need-lay-requires
+lay-requires c κs = search needs
+
+same-length-3 : tie.Need-same-length-3
+same-length-3 c = search needs
+
+returns-3 : tie.Need-returns-3
+returns-3 c = search needs
+
+pub lay-chunk-spec : {M : Type 1} → statement M
+lay-chunk-spec =
+    tie.close
+    (tie.spec
+    is-deep-requires
+    fill-requires
+    same-length
+    returns
+    is-sky-requires
+    fill-requires-2
+    same-length-2
+    returns-2
+    lay-requires
+    same-length-3
+    returns-3)

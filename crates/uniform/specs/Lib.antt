@@ -1,0 +1,4 @@
+pub mod Place
+pub mod Reach
+pub mod Untouched
+pub mod Laws
