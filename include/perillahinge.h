@@ -193,8 +193,8 @@ pl_answer pl_set(uint16_t *cells, size_t cells_len, size_t size, uint32_t count,
 pl_answer pl_fill_column(uint16_t *cells, size_t cells_len, size_t size, uint32_t count, size_t x, size_t z,
                          size_t height, uint16_t id);
 
-/* Sets the cells of any number of groups x, y, z, id, as pl_session_set_blocks does. Its time grows with the square
- * of their number. Refused: 1, 6, 21 (the count). */
+/* Sets the cells of any number of groups x, y, z, id, as pl_session_set_blocks does; 33 KiB of stack. Refused: 1, 6,
+ * 21 (the count). */
 pl_batch_answer pl_set_blocks(uint16_t *cells, size_t cells_len, size_t size, uint32_t count, const uint32_t *edits,
                               size_t edits_len);
 

@@ -26,10 +26,12 @@ smoothRamp₃₂ val edge width = smooth₃₂ (clamp₃₂ ((val -f edge) /f wi
 unfoldable pub ridge₃₂ : Float → Float
 ridge₃₂ n = nat 1 -f abs₃₂ (n -f nearest 1 2) *f nat 2
 
+unfoldable pub ridgesOf : Float → Float → Float
+ridgesOf n1 n2 = square (ridge₃₂ n1) *f nearest 7 10 +f square (ridge₃₂ n2) *f nearest 3 10
+
 unfoldable pub ridges₃₂ : Float → Float → Float
 ridges₃₂ x z =
-    square (ridge₃₂ (offsetFbm₃₂ x z (nearest 8 1000) (nat 500) (nat 500) 4)) *f nearest 7 10
-    +f square (ridge₃₂ (offsetFbm₃₂ x z (nearest 15 1000) (nat 300) (nat 200) 3)) *f nearest 3 10
+    ridgesOf (offsetFbm₃₂ x z (nearest 8 1000) (nat 500) (nat 500) 4) (offsetFbm₃₂ x z (nearest 15 1000) (nat 300) (nat 200) 3)
 
 unfoldable pub plateau₃₂ : Float → Float
 plateau₃₂ raw = floor₃₂ (raw *f nat 5) /f nat 5 *f nearest 6 10 +f raw *f nearest 4 10
@@ -134,6 +136,10 @@ columnAt wx wz sea seedOffset = columnOf (real wx +f seedOffset) (real wz +f see
 
 abbrev pub surface : Biome → ℤ → Surface
 surface b h = record { biome = b; height = h }
+
+-- the biome and the height that climate and relief give, through weights and heights
+unfoldable pub surfaceOf : Column → Relief → Float → ℤ → Surface
+surfaceOf c n sl maxHeight = surface (dominantOf (heightsOf (weightsOf c) n sl)) (heightOf (heightsOf (weightsOf c) n sl) maxHeight)
 
 -- `get_biome`
 unfoldable pub biomeAndHeight : ℤ → ℤ → ℤ → ℤ → Float → Surface

@@ -1,6 +1,6 @@
 // The height and the biome of a column of the world: `get_biome` of terrain.rs.
 ghost use mathlib.Core.Path.{_≡_};
-ghost use Rattle.column.specs.Column.{offsetFbm₃₂, scaledFbm₃₂, smoothRamp₃₂, ridge₃₂, ridges₃₂, plateau₃₂, continent₃₂, hillBoost₃₂, coldBoost₃₂, reliefOf, climateOf, weightsOf, heightsOf, blend₃₂, dominantOf, clampOf, columnOf, heightOf, biomeAndHeight};
+ghost use Rattle.column.specs.Column.{offsetFbm₃₂, scaledFbm₃₂, smoothRamp₃₂, ridge₃₂, ridgesOf, ridges₃₂, plateau₃₂, continent₃₂, hillBoost₃₂, coldBoost₃₂, reliefOf, climateOf, weightsOf, heightsOf, blend₃₂, dominantOf, clampOf, heightOf, surfaceOf, biomeAndHeight};
 use noise::fbm2d;
 use words::num::abs;
 use words::num::clamp;
@@ -73,15 +73,24 @@ fn ridge(n: f32) -> f32
     1.0 - abs(n - 0.5) * 2.0
 }
 
-fn ridges(x: f32, z: f32) -> f32
-    ensures { λ r. ⌜ r ≡ ridges₃₂ x z ⌝ }
+// The ridges of two noises.
+pub fn ridges_of(n1: f32, n2: f32) -> f32
+    ensures { λ r. ⌜ r ≡ ridgesOf n1 n2 ⌝ }
 {
-    let ridge1 = ridge(offset_fbm(x, z, 0.008, 500.0, 500.0, 4));
-    let ridge2 = ridge(offset_fbm(x, z, 0.015, 300.0, 200.0, 3));
+    let ridge1 = ridge(n1);
+    let ridge2 = ridge(n2);
     ridge1 * ridge1 * 0.7 + ridge2 * ridge2 * 0.3
 }
 
-fn plateau(raw: f32) -> f32
+fn ridges(x: f32, z: f32) -> f32
+    ensures { λ r. ⌜ r ≡ ridges₃₂ x z ⌝ }
+{
+    let n1 = offset_fbm(x, z, 0.008, 500.0, 500.0, 4);
+    let n2 = offset_fbm(x, z, 0.015, 300.0, 200.0, 3);
+    ridges_of(n1, n2)
+}
+
+pub fn plateau(raw: f32) -> f32
     ensures { λ r. ⌜ r ≡ plateau₃₂ raw ⌝ }
 {
     let steps = floor(raw * 5.0) / 5.0;
@@ -186,13 +195,6 @@ fn heights(c: Column, n: Relief, sl: f32) -> Column
     r
 }
 
-fn column_at(x: f32, z: f32, sl: f32) -> Column
-    ensures { λ r. ⌜ r ≡ columnOf x z sl ⌝ }
-{
-    let c = weights(climate(x, z));
-    heights(c, relief_at(x, z), sl)
-}
-
 fn blend(c: Column) -> f32
     ensures { λ r. ⌜ r ≡ blend₃₂ c ⌝ }
 {
@@ -232,14 +234,21 @@ fn blended_height(c: Column, max_height: i32) -> i32
     clamp_i32(to_i32(blend(c)), 1, max_height)
 }
 
+// Biome and height of a column from its climate and relief: what is left once the noise is there.
+pub fn surface_of(climate: Column, n: Relief, sl: f32, max_height: i32) -> Surface
+    ensures { λ r. ⌜ r ≡ surfaceOf climate n sl «max_height» ⌝ }
+{
+    let c = heights(weights(climate), n, sl);
+    let height = blended_height(c, max_height);
+    let biome = dominant_biome(c);
+    Surface { biome, height }
+}
+
 pub fn get_biome(wx: i32, wz: i32, sea_level: i32, max_height: i32, seed_offset: f32) -> Surface
     ensures { λ r. ⌜ r ≡ biomeAndHeight wx wz «sea_level» «max_height» «seed_offset» ⌝ }
 {
     let x = of_i32(wx) + seed_offset;
     let z = of_i32(wz) + seed_offset;
     let sl = of_i32(sea_level);
-    let c = column_at(x, z, sl);
-    let height = blended_height(c, max_height);
-    let biome = dominant_biome(c);
-    Surface { biome, height }
+    surface_of(climate(x, z), relief_at(x, z), sl, max_height)
 }

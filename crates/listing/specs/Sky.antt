@@ -10,7 +10,7 @@ use lib.Signed.{leZ, ltZ}
 use lib.Dec.{leb}
 use borrow.Author.Tests.{le-leb}
 use Rattle.grid.specs.Cube.{tab, steps}
-use Rattle.terrain.specs.World.{Tall, heightAt, biomeAt, biomeNumber, biomeNumbered, topAt, columnCell, cellUnder, baseCell}
+use Rattle.terrain.specs.World.{Tall, heightAt, biomeAt, biomeNumber, biomeNumbered, topAt, columnCell, cellWith, cellUnder, baseCell}
 use Rattle.terrain.specs.Base.{baseNumbered, baseCells}
 use Rattle.terrain.specs.Laws.{height-most}
 use Rattle.terrain.specs.declared.world.World.{World}
@@ -27,7 +27,7 @@ use Rattle.ground.specs.Laws.{ground-heights}
 
 -- 01, Cell: "At wy ≥ height: water (5) below sea level, even above the world's top"
 pub sky-water : (w : World) (t : Tall w) (wx wz : ℤ) (n : ℕ) → t .top ≤ n → ltZ (pos n) (w .«sea_level») ≡ true → baseCell w wx (pos n) wz ≡ 5
-unfolding baseCell cellUnder columnCell topAt
+unfolding baseCell cellUnder cellWith columnCell topAt
 sky-water w t wx wz n h s =
     let m = height-most w t wx wz in
     let k : leb (heightAt w wx wz) n ≡ true = le-leb (heightAt w wx wz) n (omega arith) in

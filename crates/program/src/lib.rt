@@ -15,7 +15,7 @@ fn cells_room() -> [u16; 4096]
     [0; 4096]
 }
 
-// The longest text has 24,919 bytes.
+// A text has at most 24,919 bytes.
 fn text_room() -> [u8; 25000]
     ensures { λ r. ⌜ 25000 ≡ length r ⌝ }
 {

@@ -1,5 +1,5 @@
 -- What holds of every column and every cell of the base. Assumes nothing.
-use mathlib.Core.Path.{_≡_, refl, sym, ap₂, _∙_, subst}
+use mathlib.Core.Path.{_≡_, refl, sym, ap, ap₂, _∙_, subst}
 use Prim.Native.Nat.{ℕ, _*_, _/_, _%_, _≤_, _<_}
 use native.Mathlib.Omega.{arith}
 use mathlib.Core.Bool.{Bool, true, false, _&&_, cond}
@@ -16,10 +16,11 @@ use Rattle.grid.specs.Cube.{cellIndex, colOf}
 use Rattle.grid.specs.Grid.{col-x, col-z, index-lt, index-x, index-y, index-z, tab-length, tab-at}
 use Rattle.terrain.specs.Blocks.{desertBlock, snowPatch, mountainTop, mountainBlock, shoreBlock, forestBlock, plainsBlock, selectBlock}
 use Rattle.terrain.specs.Caves.{carved}
-use Rattle.terrain.specs.World.{Tall, heightAt, biomeAt, biomeNumber, biomeNumbered, topAt, groundCell, columnCell, cellUnder, baseCell}
+use Rattle.terrain.specs.World.{Tall, heightAt, biomeAt, biomeNumber, biomeNumbered, topAt, groundCell, columnCell, cellWith, cellUnder, baseCell}
 use Rattle.terrain.specs.Base.{baseNumbered, baseCells, columnHeight, columnBiome}
 use Rattle.terrain.specs.declared.world.World.{World}
 use Rattle.terrain.specs.declared.world.Frame.{Frame}
+use Rattle.terrain.specs.declared.world.Top.{Top}
 
 -- a column's height lies in 1 to the greatest
 pub world-range : (w : World) (t : Tall w) (wx wz : ℤ) → Range (t .top) (biomeAndHeight wx wz (w .«sea_level») (w .«max_height») (w .«seed_offset») .height)
@@ -83,19 +84,36 @@ either : (b : Bool) (x y : ℕ) → x < 65536 → y < 65536 → cond b x y < 655
 either true x y p q = p
 either false x y p q = q
 
-ground-id : (t : Bool) (b : Biome) (wx wy wz h sea : ℤ) → groundCell t b wx wy wz h sea < 65536
+ground-id : (t v : Bool) (b : Biome) (wy h sea : ℤ) → groundCell t v b wy h sea < 65536
 unfolding groundCell
-ground-id true b wx wy wz h sea = either (carved wx wy wz h) 0 _ (omega arith) (select-block-solid b wy h sea .1)
-ground-id false b wx wy wz h sea = select-block-solid b wy h sea .1
+ground-id true v b wy h sea = either v 0 _ (omega arith) (select-block-solid b wy h sea .1)
+ground-id false v b wy h sea = select-block-solid b wy h sea .1
 
-cell-id : (t : Bool) (b : Biome) (wx wy wz h sea : ℤ) → columnCell t b wx wy wz h sea < 65536
+cell-id : (t v : Bool) (b : Biome) (wy h sea : ℤ) → columnCell t v b wy h sea < 65536
 unfolding columnCell
-cell-id true b wx wy wz h sea = either (ltZ wy sea) 5 0 (omega arith) (omega arith)
-cell-id false b wx wy wz h sea = ground-id (ltZ (pos 0) wy && ltZ wy (h -ℤ pos 1)) b wx wy wz h sea
+cell-id true v b wy h sea = either (ltZ wy sea) 5 0 (omega arith) (omega arith)
+cell-id false v b wy h sea = ground-id (ltZ (pos 0) wy && ltZ wy (h -ℤ pos 1)) v b wy h sea
 
 pub base-id : (w : World) (wx wy wz : ℤ) → baseCell w wx wy wz < 65536
-unfolding baseCell cellUnder
-base-id w wx wy wz = cell-id (leZ (pos (topAt w wx wz .height)) wy) (biomeNumbered (topAt w wx wz .biome)) wx wy wz (pos (topAt w wx wz .height)) (w .«sea_level»)
+unfolding baseCell cellUnder cellWith
+base-id w wx wy wz = cell-id (leZ (pos (topAt w wx wz .height)) wy) (carved wx wy wz (pos (topAt w wx wz .height))) (biomeNumbered (topAt w wx wz .biome)) wy (pos (topAt w wx wz .height)) (w .«sea_level»)
+
+-- where the level admits no cave, it does not matter what is said of one
+ground-told : (t v u : Bool) (b : Biome) (wy h sea : ℤ) → (t ≡ true → v ≡ u) → groundCell t v b wy h sea ≡ groundCell t u b wy h sea
+unfolding groundCell
+ground-told true v u b wy h sea e = ap (λ (q : Bool). cond q 0 (selectBlock b wy h sea)) (e refl)
+ground-told false v u b wy h sea e = refl
+
+column-told : (t v u : Bool) (b : Biome) (wy h sea : ℤ) → ((ltZ (pos 0) wy && ltZ wy (h -ℤ pos 1)) ≡ true → v ≡ u) → columnCell t v b wy h sea ≡ columnCell t u b wy h sea
+unfolding columnCell
+column-told true v u b wy h sea e = refl
+column-told false v u b wy h sea e = ground-told (ltZ (pos 0) wy && ltZ wy (h -ℤ pos 1)) v u b wy h sea e
+
+pub cell-told : (t : Top) (sea wx wy wz : ℤ) (v : Bool) → ((ltZ (pos 0) wy && ltZ wy (pos (t .height) -ℤ pos 1)) ≡ true → v ≡ carved wx wy wz (pos (t .height)))
+    → cellWith t sea wy v ≡ cellUnder t sea wx wy wz
+unfolding cellUnder cellWith
+cell-told t sea wx wy wz v e =
+    column-told (leZ (pos (t .height)) wy) v (carved wx wy wz (pos (t .height))) (biomeNumbered (t .biome)) wy (pos (t .height)) sea e
 
 deep : (h : ℕ) (wy : ℤ) → 1 ≤ h → leZ wy (pos 0) ≡ true → (leZ (pos h) wy ≡ false) × (ltZ (pos 0) wy ≡ false)
 deep h (pos n) p e = let k = leb-true n 0 e in (lt-leb h n (omega arith), le-ltb 0 n (omega arith))
@@ -103,7 +121,7 @@ deep h (negsuc n) p e = (refl, refl)
 
 -- 01, Cell: "Cells at or below wy 0 are solid."
 pub base-solid : (w : World) (t : Tall w) (wx wy wz : ℤ) → leZ wy (pos 0) ≡ true → 1 ≤ baseCell w wx wy wz
-unfolding baseCell cellUnder topAt columnCell groundCell
+unfolding baseCell cellUnder cellWith topAt columnCell groundCell
 base-solid w t wx wy wz e =
     let d = deep (heightAt w wx wz) wy (height-least w t wx wz) e in
     rw (d .0, d .1) (select-block-solid (biomeNumbered (topAt w wx wz .biome)) wy (pos (heightAt w wx wz)) (w .«sea_level») .0)

@@ -3,4 +3,3 @@ pub mod Caves
 pub mod World
 pub mod Base
 pub mod Laws
-pub mod Rows

@@ -53,18 +53,22 @@ topWith h b = record { height = h; biome = b }
 unfoldable pub topAt : World → ℤ → ℤ → Top
 topAt w wx wz = topWith (heightAt w wx wz) (biomeNumber (biomeAt w wx wz))
 
--- "Below height: caves only where 0 < wy < height − 1; otherwise the biome decides"
-unfoldable pub groundCell : Bool → Biome → ℤ → ℤ → ℤ → ℤ → ℤ → ℕ
-groundCell true b wx wy wz h sea = cond (carved wx wy wz h) AIR (selectBlock b wy h sea)
-groundCell false b wx wy wz h sea = selectBlock b wy h sea
+-- "Below height: caves only where 0 < wy < height − 1; otherwise the biome decides"; hollow says whether a cave is there
+unfoldable pub groundCell : Bool → Bool → Biome → ℤ → ℤ → ℤ → ℕ
+groundCell true hollow b wy h sea = cond hollow AIR (selectBlock b wy h sea)
+groundCell false hollow b wy h sea = selectBlock b wy h sea
 
 -- "At wy ≥ height: water (5) below sea level, even above the world's top; else air (0)."
-unfoldable pub columnCell : Bool → Biome → ℤ → ℤ → ℤ → ℤ → ℤ → ℕ
-columnCell true b wx wy wz h sea = cond (ltZ wy sea) WATER AIR
-columnCell false b wx wy wz h sea = groundCell (ltZ (pos 0) wy && ltZ wy (h -ℤ pos 1)) b wx wy wz h sea
+unfoldable pub columnCell : Bool → Bool → Biome → ℤ → ℤ → ℤ → ℕ
+columnCell true hollow b wy h sea = cond (ltZ wy sea) WATER AIR
+columnCell false hollow b wy h sea = groundCell (ltZ (pos 0) wy && ltZ wy (h -ℤ pos 1)) hollow b wy h sea
+
+-- a cell of a column with this top
+unfoldable pub cellWith : Top → ℤ → ℤ → Bool → ℕ
+cellWith t sea wy hollow = columnCell (leZ (pos (t .height)) wy) hollow (biomeNumbered (t .biome)) wy (pos (t .height)) sea
 
 unfoldable pub cellUnder : Top → ℤ → ℤ → ℤ → ℤ → ℕ
-cellUnder t sea wx wy wz = columnCell (leZ (pos (t .height)) wy) (biomeNumbered (t .biome)) wx wy wz (pos (t .height)) sea
+cellUnder t sea wx wy wz = cellWith t sea wy (carved wx wy wz (pos (t .height)))
 
 -- the cell at a place of the world, before boulders and trees
 unfoldable pub baseCell : World → ℤ → ℤ → ℤ → ℕ

@@ -1,6 +1,6 @@
 // Where the ground is hollow: the caves of terrain.rs. They do not take the seed.
 ghost use mathlib.Core.Path.{_≡_};
-ghost use Rattle.terrain.specs.Caves.{spaghettiCave, largeCavern, ravineCut, carved};
+ghost use Rattle.terrain.specs.Caves.{spaghettiCave, largeCavern, ravineHere, ravineCut, carved};
 use noise::fbm2d;
 use noise::fbm3d;
 use noise::noise2d;
@@ -26,15 +26,26 @@ fn cavern(x: f32, y: f32, z: f32, height: f32) -> bool
     n > 0.7 - depth_factor * 0.15
 }
 
-// Narrow cuts near the surface.
-fn ravine(x: f32, y: f32, z: f32, height: f32) -> bool
-    ensures { λ r. ⌜ r ≡ ravineCut x y z height ⌝ }
+// Whether a column lies on a narrow cut.
+pub fn ravine_here(x: f32, z: f32) -> bool
+    ensures { λ r. ⌜ r ≡ ravineHere x z ⌝ }
 {
     let n = fbm2d(x * 0.01, z * 0.01, 3);
     let detail = noise2d(x * 0.05, z * 0.05);
-    (abs(n - 0.5) < 0.015 + detail * 0.008) & (y > height - 20.0) & (y < height - 1.0)
+    abs(n - 0.5) < 0.015 + detail * 0.008
 }
 
+// Narrow cuts near the surface. The noise is dear, so the level is looked at first.
+fn ravine(x: f32, y: f32, z: f32, height: f32) -> bool
+    ensures { λ r. ⌜ r ≡ ravineCut x y z height ⌝ }
+{
+    if (y > height - 20.0) & (y < height - 1.0) {
+        return ravine_here(x, z);
+    }
+    false
+}
+
+// The cheaper tests come first: the answer does not depend on their order.
 pub fn cave(wx: i32, wy: i32, wz: i32, height: i32) -> bool
     ensures { λ r. ⌜ r ≡ carved wx wy wz height ⌝ }
 {
@@ -42,5 +53,11 @@ pub fn cave(wx: i32, wy: i32, wz: i32, height: i32) -> bool
     let y = of_i32(wy);
     let z = of_i32(wz);
     let h = of_i32(height);
-    spaghetti(x, y, z) | cavern(x, y, z, h) | ravine(x, y, z, h)
+    if ravine(x, y, z, h) {
+        return true;
+    }
+    if cavern(x, y, z, h) {
+        return true;
+    }
+    spaghetti(x, y, z)
 }

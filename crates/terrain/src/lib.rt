@@ -1,4 +1,3 @@
-pub mod base;
 pub mod block;
 pub mod cave;
 pub mod world;

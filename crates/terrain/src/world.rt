@@ -4,12 +4,11 @@ ghost use mathlib.Core.Bool.{_&&_};
 ghost use Prim.Native.Nat.{_≤_, _<_};
 ghost use lib.IntN.{pos, _+ℤ_, _-ℤ_};
 ghost use lib.Signed.{mag, ltZ};
-ghost use Rattle.terrain.specs.World.{Tall, topAt, biomeNumber, biomeNumbered, localY, cellUnder, groundCell};
+ghost use Rattle.terrain.specs.World.{biomeNumber, biomeNumbered, localY, cellWith, groundCell};
 use crate::block::AIR;
 use crate::block::WATER;
 use crate::block::select_block;
 use column::Biome;
-use column::get_biome;
 
 // The settings without the chunk's size, as `generate` of terrain.rs works them out.
 pub struct World {
@@ -49,7 +48,7 @@ pub fn local_y(o: i32, y: usize, size: usize) -> usize
     if d < 0 { size } else { d as usize }
 }
 
-fn biome_number(b: Biome) -> u8
+pub fn biome_number(b: Biome) -> u8
     ensures { λ r. ⌜ r ≡ biomeNumber b ⌝ }
 {
     match b {
@@ -75,28 +74,13 @@ fn biome_numbered(n: u8) -> Biome
     Biome::Plains
 }
 
-// The height and the biome of a column.
-pub fn top_at(w: World, wx: i32, wz: i32) -> Top
-    requires { ⌜ Tall w ⌝ }
-    ensures { λ r. ⌜ r ≡ topAt w wx wz ⌝ }
-{
-    let s = get_biome(wx, wz, w.sea_level, w.max_height, w.seed_offset);
-    let b = s.biome;
-    let n = biome_number(b);
-    let h = s.height;
-    Top {
-        height: h as u16,
-        biome: n,
-    }
-}
-
 // Below the surface: caves, and else the biome's block.
-fn ground_cell(b: Biome, wx: i32, wy: i32, wz: i32, h: u16, sea_level: i32) -> u16
-    ensures { λ r. ⌜ r ≡ groundCell (ltZ (pos 0) wy && ltZ wy (pos h -ℤ pos 1)) b wx wy wz (pos h) «sea_level» ⌝ }
+fn ground_cell(b: Biome, wy: i32, h: u16, sea_level: i32, hollow: bool) -> u16
+    ensures { λ r. ⌜ r ≡ groundCell (ltZ (pos 0) wy && ltZ wy (pos h -ℤ pos 1)) hollow b wy (pos h) «sea_level» ⌝ }
 {
     let height = h as i32;
     if (wy > 0) & (wy < height - 1) {
-        if crate::cave::cave(wx, wy, wz, height) {
+        if hollow {
             return AIR;
         }
         return select_block(b, wy, height, sea_level);
@@ -104,10 +88,10 @@ fn ground_cell(b: Biome, wx: i32, wy: i32, wz: i32, h: u16, sea_level: i32) -> u
     select_block(b, wy, height, sea_level)
 }
 
-// A cell of a column with this top.
-pub fn cell(t: Top, sea_level: i32, wx: i32, wy: i32, wz: i32) -> u16
+// A cell of a column with this top; hollow says whether a cave is there, where its level admits one.
+pub fn cell(t: Top, sea_level: i32, wy: i32, hollow: bool) -> u16
     requires { ⌜ t .height < 65536 ⌝ }
-    ensures { λ r. ⌜ r ≡ cellUnder t «sea_level» wx wy wz ⌝ }
+    ensures { λ r. ⌜ r ≡ cellWith t «sea_level» wy hollow ⌝ }
 {
     let h = t.height;
     let n = t.biome;
@@ -119,5 +103,5 @@ pub fn cell(t: Top, sea_level: i32, wx: i32, wy: i32, wz: i32) -> u16
         return AIR;
     }
     let b = biome_numbered(n);
-    ground_cell(b, wx, wy, wz, h, sea_level)
+    ground_cell(b, wy, h, sea_level, hollow)
 }

@@ -13,7 +13,7 @@ use Rattle.grid.specs.Cube.{tab}
 use Rattle.column.specs.declared.Biome.{Biome}
 use Rattle.column.specs.declared.Biome.the-variants.{Desert, Mountain, Forest, Plains}
 use Rattle.terrain.specs.Blocks.{desertBlock, mountainBlock, forestBlock, plainsBlock, selectBlock}
-use Rattle.terrain.specs.World.{Tall, Near, heightAt, biomeNumbered, topAt, groundCell, columnCell, cellUnder, baseCell, localY}
+use Rattle.terrain.specs.World.{Tall, Near, heightAt, biomeNumbered, topAt, groundCell, columnCell, cellWith, cellUnder, baseCell, localY}
 use Rattle.terrain.specs.Base.{baseNumbered, baseCells, columnHeight}
 use Rattle.terrain.specs.Laws.{height-least, height-most, column-most}
 use Rattle.terrain.specs.declared.world.World.{World}
@@ -66,7 +66,7 @@ stone-under Plains k h sea p q = rw (le-ltb (h + suc k) 2 (omega arith), le-ltb 
 
 -- no caves at or below 0
 base-under : (w : World) (t : Tall w) (wx wz : ℤ) (k : ℕ) → 7 ≤ k → baseCell w wx (negsuc k) wz ≡ 1
-unfolding baseCell cellUnder topAt columnCell groundCell
+unfolding baseCell cellUnder cellWith topAt columnCell groundCell
 base-under w t wx wz k h = stone-under (biomeNumbered (topAt w wx wz .biome)) k (heightAt w wx wz) (w .«sea_level») (height-least w t wx wz) h
 
 level-under : (n s y : ℕ) → s ≤ n → y < s → negsuc n +ℤ pos y ≡ negsuc (n - y)
@@ -107,7 +107,7 @@ above-of r top sea (pos a) p q = record { a = a; is = refl; far = leb-true (top 
 above-of r top sea (negsuc a) p q = absurd (never q)
 
 air-over : (w : World) (t : Tall w) (wx wz : ℤ) (n : ℕ) → t .top ≤ n → ltZ (pos n) (w .«sea_level») ≡ false → baseCell w wx (pos n) wz ≡ 0
-unfolding baseCell cellUnder topAt columnCell
+unfolding baseCell cellUnder cellWith topAt columnCell
 air-over w t wx wz n h e = let m = height-most w t wx wz in rw (le-leb (heightAt w wx wz) n (omega arith), e)
 
 -- a level below the chunk counts as outside

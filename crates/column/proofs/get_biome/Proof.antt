@@ -3,9 +3,8 @@ use mathlib.Core.Path.{_≡_, ap, ap₂, _∙_}
 use lib.Ieee.{Float}
 use mir.Syntax.{w32}
 use mir.ValLaws.{toZ-ofZ}
-use Rattle.words.specs.Laws.{read, ap₃}
-use Rattle.column.specs.Column.{dominantOf, columnOf, columnAt, heightOf, biomeAndHeight}
-use Rattle.column.specs.Column.{surface}
+use Rattle.words.specs.Laws.{ap₄}
+use Rattle.column.specs.Column.{climateOf, reliefOf, columnOf, columnAt, surfaceOf, biomeAndHeight}
 use Rattle.column.specs.Floats.{_+f_, real}
 use borrow.Author.Needs.{needs}
 use Rattle.column.proofs.get_biome.Statement.{statement}
@@ -20,30 +19,28 @@ of-i32-requires-2 c κs = search needs
 of-i32-requires-3 : tie.Need-of-i32-requires-3
 of-i32-requires-3 c κs = search needs
 
-column-at-requires : tie.Need-column-at-requires
-column-at-requires c κs = search needs
+climate-requires : tie.Need-climate-requires
+climate-requires c κs = search needs
 
-blended-height-requires : tie.Need-blended-height-requires
-blended-height-requires c κs = search needs
+relief-at-requires : tie.Need-relief-at-requires
+relief-at-requires c κs = search needs
 
-dominant-biome-requires : tie.Need-dominant-biome-requires
-dominant-biome-requires c κs = search needs
+surface-of-requires : tie.Need-surface-of-requires
+surface-of-requires c κs = search needs
 
 returns : tie.Need-returns
-unfolding biomeAndHeight columnAt
+unfolding biomeAndHeight columnAt columnOf surfaceOf
 returns c =
     let s = c .before .before .before .before .before .before in
     let a = s .args in
     let x = c .before .before .before .before .before .of-i32 .ensures ∙ ap real (toZ-ofZ w32 (a .wx) (s .fits .wx)) in
     let z = c .before .before .before .before .of-i322 .ensures ∙ ap real (toZ-ofZ w32 (a .wz) (s .fits .wz)) in
     let sl = c .before .before .before .of-i323 .ensures ∙ ap real (toZ-ofZ w32 (a .sea-level) (s .fits .sea-level)) in
-    let col : c .before .before .column-at .result ≡ columnAt (a .wx) (a .wz) (a .sea-level) (a .seed-offset) =
-    c .before .before .column-at .ensures
-    ∙ ap₃ (λ (u v w : Float). columnOf (u +f a .seed-offset) (v +f a .seed-offset) w) x z sl in
-    let h =
-    read w32 (c .before .blended-height .ok)
-    (c .before .blended-height .ensures ∙ ap₂ heightOf col (toZ-ofZ w32 (a .max-height) (s .fits .max-height))) in
-    ap₂ surface (c .dominant-biome .ensures ∙ ap dominantOf col) h
+    c .surface-of .ensures
+    ∙ ap₄ surfaceOf
+    (c .before .before .climate .ensures ∙ ap₂ (λ (u v : Float). climateOf (u +f a .seed-offset) (v +f a .seed-offset)) x z)
+    (c .before .relief-at .ensures ∙ ap₂ (λ (u v : Float). reliefOf (u +f a .seed-offset) (v +f a .seed-offset)) x z)
+    sl (toZ-ofZ w32 (a .max-height) (s .fits .max-height))
 
 pub get-biome-spec : {M : Type 1} → statement M
 get-biome-spec =
@@ -52,7 +49,7 @@ get-biome-spec =
     of-i32-requires
     of-i32-requires-2
     of-i32-requires-3
-    column-at-requires
-    blended-height-requires
-    dominant-biome-requires
+    climate-requires
+    relief-at-requires
+    surface-of-requires
     returns)

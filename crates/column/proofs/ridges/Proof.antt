@@ -9,20 +9,16 @@ use Rattle.column.proofs.ridges.Tie as tie
 offset-fbm-requires : tie.Need-offset-fbm-requires
 offset-fbm-requires c κs = search needs
 
-ridge-requires : tie.Need-ridge-requires
-ridge-requires c κs = search needs
-
 offset-fbm-requires-2 : tie.Need-offset-fbm-requires-2
 offset-fbm-requires-2 c κs = search needs
 
-ridge-requires-2 : tie.Need-ridge-requires-2
-ridge-requires-2 c κs = search needs
+ridges-of-requires : tie.Need-ridges-of-requires
+ridges-of-requires c κs = search needs
 
 returns : tie.Need-returns
 unfolding ridges₃₂ nearest ofBits neg
-returns c = simp (c .ridge2 .ensures, c .before .offset-fbm2 .ensures, c .before .before .ridge .ensures, c .before .before .before .offset-fbm .ensures)
+returns c = simp (c .ridges-of .ensures, c .before .offset-fbm2 .ensures, c .before .before .offset-fbm .ensures)
 
 pub ridges-spec : {M : Type 1} → statement M
 ridges-spec =
-    tie.close
-    (tie.spec offset-fbm-requires ridge-requires offset-fbm-requires-2 ridge-requires-2 returns)
+    tie.close (tie.spec offset-fbm-requires offset-fbm-requires-2 ridges-of-requires returns)

@@ -1,7 +1,8 @@
 -- `ground::lay_chunk` meets its contract. Assumes nothing.
 use borrow.Author.Needs.{needs}
-use mathlib.Core.Path.{sym, ap, _∙_}
+use mathlib.Core.Path.{_≡_, sym, ap, _∙_}
 use Prim.Native.Nat.{ℕ}
+use lib.ListN.{length}
 use Rattle.uniform.specs.Place.{allOf}
 use Rattle.uniform.specs.Laws.{ground-deep, ground-sky}
 use Rattle.ground.specs.Ground.{groundIn}
@@ -24,7 +25,8 @@ returns c =
     let w = s .args .w in
     let o = s .args .o in
     let deep = sym (c .before .before .before .before .before .is-deep .ensures) ∙ c .before .before .before .before .if1 .taken in
-    c .before .before .fill .ensures ∙ ap (λ (n : ℕ). allOf n 1) (s .pre .2 .all) ∙ sym (ground-deep w o (s .pre .0) (s .pre .1) deep)
+    let filled : c .before .before .fill .last .0 ≡ allOf (length (s .args .cells .now)) 1 = c .before .before .fill .ensures in
+    filled ∙ ap (λ (n : ℕ). allOf n 1) (s .pre .2 .all) ∙ sym (ground-deep w o (s .pre .0) (s .pre .1) deep)
 
 is-sky-requires : tie.Need-is-sky-requires
 is-sky-requires c κs = search needs
@@ -42,7 +44,8 @@ returns-2 c =
     let w = s .args .w in
     let o = s .args .o in
     let sky = sym (c .before .before .before .before .before .is-sky .ensures) ∙ c .before .before .before .before .if2 .taken in
-    c .before .before .fill2 .ensures ∙ ap (λ (n : ℕ). allOf n 0) (s .pre .2 .all) ∙ sym (ground-sky w o (s .pre .0) (s .pre .1) sky)
+    let filled : c .before .before .fill2 .last .0 ≡ allOf (length (s .args .cells .now)) 0 = c .before .before .fill2 .ensures in
+    filled ∙ ap (λ (n : ℕ). allOf n 0) (s .pre .2 .all) ∙ sym (ground-sky w o (s .pre .0) (s .pre .1) sky)
 
 lay-requires : tie.Need-lay-requires
 lay-requires c κs = search needs

@@ -1,10 +1,12 @@
 -- `terrain::cave::cave` meets its contract. Assumes nothing.
-use borrow.Author.Needs.{needs}
-use lib.Ieee.{ofBits, neg}
+use mathlib.Core.Path.{sym, ap, _∙_}
+use lib.Ieee.{binary32, ofInt}
 use mir.Syntax.{w32}
 use mir.ValLaws.{toZ-ofZ}
-use Rattle.words.specs.Num.{nearest}
-use Rattle.terrain.specs.Caves.{carved}
+use Rattle.words.specs.Laws.{ap₃, ap₄}
+use Rattle.terrain.specs.Caves.{spaghettiCave, largeCavern, ravineCut}
+use Rattle.terrain.proofs.Tests.{by-spaghetti, by-cavern, by-ravine}
+use borrow.Author.Needs.{needs}
 use Rattle.terrain.proofs.cave.cave.Statement.{statement}
 use Rattle.terrain.proofs.cave.cave.Tie as tie
 
@@ -20,18 +22,45 @@ of-i32-requires-3 c κs = search needs
 of-i32-requires-4 : tie.Need-of-i32-requires-4
 of-i32-requires-4 c κs = search needs
 
-spaghetti-requires : tie.Need-spaghetti-requires
-spaghetti-requires c κs = search needs
-
-cavern-requires : tie.Need-cavern-requires
-cavern-requires c κs = search needs
-
 ravine-requires : tie.Need-ravine-requires
 ravine-requires c κs = search needs
 
 returns : tie.Need-returns
-unfolding carved nearest ofBits neg
-returns c = rw (c .ravine .ensures, c .before .cavern .ensures, c .before .before .spaghetti .ensures, c .before .before .before .of-i324 .ensures, c .before .before .before .before .of-i323 .ensures, c .before .before .before .before .before .of-i322 .ensures, c .before .before .before .before .before .before .of-i32 .ensures, toZ-ofZ w32 (c .before .before .before .before .before .before .before .args .wx) (c .before .before .before .before .before .before .before .fits .wx), toZ-ofZ w32 (c .before .before .before .before .before .before .before .args .wy) (c .before .before .before .before .before .before .before .fits .wy), toZ-ofZ w32 (c .before .before .before .before .before .before .before .args .wz) (c .before .before .before .before .before .before .before .fits .wz), toZ-ofZ w32 (c .before .before .before .before .before .before .before .args .height) (c .before .before .before .before .before .before .before .fits .height))
+returns c =
+    let d = c .before .before in
+    let s = d .before .before .before .before in
+    let x = d .before .before .before .of-i32 .ensures ∙ ap (ofInt binary32) (toZ-ofZ w32 (s .args .wx) (s .fits .wx)) in
+    let y = d .before .before .of-i322 .ensures ∙ ap (ofInt binary32) (toZ-ofZ w32 (s .args .wy) (s .fits .wy)) in
+    let z = d .before .of-i323 .ensures ∙ ap (ofInt binary32) (toZ-ofZ w32 (s .args .wz) (s .fits .wz)) in
+    let h = d .of-i324 .ensures ∙ ap (ofInt binary32) (toZ-ofZ w32 (s .args .height) (s .fits .height)) in
+    by-ravine (s .args .wx) (s .args .wy) (s .args .wz) (s .args .height) (sym (c .before .ravine .ensures ∙ ap₄ ravineCut x y z h) ∙ c .if1 .taken)
+
+cavern-requires : tie.Need-cavern-requires
+cavern-requires c κs = search needs
+
+returns-2 : tie.Need-returns-2
+returns-2 c =
+    let d = c .before .before .before .before in
+    let s = d .before .before .before .before in
+    let x = d .before .before .before .of-i32 .ensures ∙ ap (ofInt binary32) (toZ-ofZ w32 (s .args .wx) (s .fits .wx)) in
+    let y = d .before .before .of-i322 .ensures ∙ ap (ofInt binary32) (toZ-ofZ w32 (s .args .wy) (s .fits .wy)) in
+    let z = d .before .of-i323 .ensures ∙ ap (ofInt binary32) (toZ-ofZ w32 (s .args .wz) (s .fits .wz)) in
+    let h = d .of-i324 .ensures ∙ ap (ofInt binary32) (toZ-ofZ w32 (s .args .height) (s .fits .height)) in
+    by-cavern (s .args .wx) (s .args .wy) (s .args .wz) (s .args .height) (sym (c .before .cavern .ensures ∙ ap₄ largeCavern x y z h) ∙ c .if2 .taken)
+
+spaghetti-requires : tie.Need-spaghetti-requires
+spaghetti-requires c κs = search needs
+
+returns-3 : tie.Need-returns-3
+returns-3 c =
+    let d = c .before .before .before .before .before in
+    let s = d .before .before .before .before in
+    let x = d .before .before .before .of-i32 .ensures ∙ ap (ofInt binary32) (toZ-ofZ w32 (s .args .wx) (s .fits .wx)) in
+    let y = d .before .before .of-i322 .ensures ∙ ap (ofInt binary32) (toZ-ofZ w32 (s .args .wy) (s .fits .wy)) in
+    let z = d .before .of-i323 .ensures ∙ ap (ofInt binary32) (toZ-ofZ w32 (s .args .wz) (s .fits .wz)) in
+    let h = d .of-i324 .ensures ∙ ap (ofInt binary32) (toZ-ofZ w32 (s .args .height) (s .fits .height)) in
+    c .spaghetti .ensures ∙ ap₃ spaghettiCave x y z
+    ∙ by-spaghetti (s .args .wx) (s .args .wy) (s .args .wz) (s .args .height) (sym (c .before .before .cavern .ensures ∙ ap₄ largeCavern x y z h) ∙ c .before .if2 .left) (sym (c .before .before .before .before .ravine .ensures ∙ ap₄ ravineCut x y z h) ∙ c .before .before .before .if1 .left)
 
 pub cave-spec : {M : Type 1} → statement M
 cave-spec =
@@ -41,7 +70,9 @@ cave-spec =
     of-i32-requires-2
     of-i32-requires-3
     of-i32-requires-4
-    spaghetti-requires
-    cavern-requires
     ravine-requires
-    returns)
+    returns
+    cavern-requires
+    returns-2
+    spaghetti-requires
+    returns-3)

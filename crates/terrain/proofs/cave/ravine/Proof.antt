@@ -1,23 +1,22 @@
 -- `terrain::cave::ravine` meets its contract. Assumes nothing.
 use borrow.Author.Needs.{needs}
+use mathlib.Core.Path.{_∙_}
 use lib.Ieee.{ofBits, neg}
 use Rattle.words.specs.Num.{nearest}
-use Rattle.terrain.specs.Caves.{ravineCut}
+use Rattle.terrain.proofs.Tests.{ravine-near, ravine-far}
 use Rattle.terrain.proofs.cave.ravine.Statement.{statement}
 use Rattle.terrain.proofs.cave.ravine.Tie as tie
 
-fbm2d-requires : tie.Need-fbm2d-requires
-fbm2d-requires c κs = search needs
-
-noise2d-requires : tie.Need-noise2d-requires
-noise2d-requires c κs = search needs
-
-abs-requires : tie.Need-abs-requires
-abs-requires c κs = search needs
+ravine-here-requires : tie.Need-ravine-here-requires
+ravine-here-requires c κs = search needs
 
 returns : tie.Need-returns
-unfolding ravineCut nearest ofBits neg
-returns c = simp (c .abs .ensures, c .before .noise2d .ensures, c .before .before .fbm2d .ensures)
+unfolding nearest ofBits neg
+returns c = let a = c .before .before .args in c .ravine-here .ensures ∙ ravine-near (a .x) (a .y) (a .z) (a .height) (c .before .if1 .taken)
+
+returns-2 : tie.Need-returns-2
+unfolding nearest ofBits neg
+returns-2 c = let a = c .before .args in ravine-far (a .x) (a .y) (a .z) (a .height) (c .if1 .left)
 
 pub ravine-spec : {M : Type 1} → statement M
-ravine-spec = tie.close (tie.spec fbm2d-requires noise2d-requires abs-requires returns)
+ravine-spec = tie.close (tie.spec ravine-here-requires returns returns-2)

@@ -1,14 +1,12 @@
 -- `terrain::world::ground_cell` meets its contract. Assumes nothing.
 use borrow.Author.Needs.{needs}
-use mathlib.Core.Path.{_≡_, sym, _∙_}
+use mathlib.Core.Path.{_∙_}
 use native.Mathlib.Omega.{arith}
 use mathlib.Core.Bool.{true, false}
-use lib.IntN.{pos}
 use mir.Syntax.{w32}
 use mir.ValLaws.{toZ-ofZ, toZ-pos}
-use Rattle.words.specs.Laws.{ap₃, ap₄}
+use Rattle.words.specs.Laws.{ap₃}
 use Rattle.terrain.specs.Blocks.{selectBlock}
-use Rattle.terrain.specs.Caves.{carved}
 use Rattle.terrain.specs.World.{groundCell}
 use Rattle.terrain.proofs.Signed.{top-fits, gate}
 use Rattle.terrain.proofs.world.ground_cell.Statement.{statement}
@@ -20,26 +18,29 @@ cast-height c = search needs
 sub-if1 : tie.Need-sub-if1
 sub-if1 c = top-fits (c .args .h) (c .fits .h .fits)
 
-cave-requires : tie.Need-cave-requires
-cave-requires c κs = search needs
-
 returns : tie.Need-returns
 unfolding groundCell
-returns c = let s = c .before .before .before in let e : carved (s .args .wx) (s .args .wy) (s .args .wz) (pos (s .args .h)) ≡ true = sym (c .before .cave .ensures ∙ ap₄ carved (toZ-ofZ w32 (s .args .wx) (s .fits .wx)) (toZ-ofZ w32 (s .args .wy) (s .fits .wy)) (toZ-ofZ w32 (s .args .wz) (s .fits .wz)) (toZ-pos w32 (s .args .h) (let f = s .fits .h .fits in omega arith))) ∙ c .if2 .taken in rw (gate (s .args .wy) (s .args .h) true (s .fits .wy) (s .fits .h .fits) (c .before .before .if1 .taken), e)
+returns c = let s = c .before .before in rw (gate (s .args .wy) (s .args .h) true (s .fits .wy) (s .fits .h .fits) (c .before .if1 .taken), c .if2 .taken)
 
 select-block-requires : tie.Need-select-block-requires
 select-block-requires c κs = search needs
 
 returns-2 : tie.Need-returns-2
 unfolding groundCell
-returns-2 c = let s = c .before .before .before .before in let e : carved (s .args .wx) (s .args .wy) (s .args .wz) (pos (s .args .h)) ≡ false = sym (c .before .before .cave .ensures ∙ ap₄ carved (toZ-ofZ w32 (s .args .wx) (s .fits .wx)) (toZ-ofZ w32 (s .args .wy) (s .fits .wy)) (toZ-ofZ w32 (s .args .wz) (s .fits .wz)) (toZ-pos w32 (s .args .h) (let f = s .fits .h .fits in omega arith))) ∙ c .before .if2 .left in rw (gate (s .args .wy) (s .args .h) true (s .fits .wy) (s .fits .h .fits) (c .before .before .before .if1 .taken), e) (c .select-block .ensures ∙ ap₃ (selectBlock (s .args .b)) (toZ-ofZ w32 (s .args .wy) (s .fits .wy)) (toZ-pos w32 (s .args .h) (let f = s .fits .h .fits in omega arith)) (toZ-ofZ w32 (s .args .sea-level) (s .fits .sea-level)))
+returns-2 c =
+    let s = c .before .before .before in
+    rw (gate (s .args .wy) (s .args .h) true (s .fits .wy) (s .fits .h .fits) (c .before .before .if1 .taken), c .before .if2 .left)
+    (c .select-block .ensures ∙ ap₃ (selectBlock (s .args .b)) (toZ-ofZ w32 (s .args .wy) (s .fits .wy)) (toZ-pos w32 (s .args .h) (let f = s .fits .h .fits in omega arith)) (toZ-ofZ w32 (s .args .sea-level) (s .fits .sea-level)))
 
 select-block-requires-2 : tie.Need-select-block-requires-2
 select-block-requires-2 c κs = search needs
 
 returns-3 : tie.Need-returns-3
 unfolding groundCell
-returns-3 c = let s = c .before .before in rw (gate (s .args .wy) (s .args .h) false (s .fits .wy) (s .fits .h .fits) (c .before .if1 .left)) (c .select-block2 .ensures ∙ ap₃ (selectBlock (s .args .b)) (toZ-ofZ w32 (s .args .wy) (s .fits .wy)) (toZ-pos w32 (s .args .h) (let f = s .fits .h .fits in omega arith)) (toZ-ofZ w32 (s .args .sea-level) (s .fits .sea-level)))
+returns-3 c =
+    let s = c .before .before in
+    rw (gate (s .args .wy) (s .args .h) false (s .fits .wy) (s .fits .h .fits) (c .before .if1 .left))
+    (c .select-block2 .ensures ∙ ap₃ (selectBlock (s .args .b)) (toZ-ofZ w32 (s .args .wy) (s .fits .wy)) (toZ-pos w32 (s .args .h) (let f = s .fits .h .fits in omega arith)) (toZ-ofZ w32 (s .args .sea-level) (s .fits .sea-level)))
 
 pub ground-cell-spec : {M : Type 1} → statement M
 ground-cell-spec =
@@ -47,7 +48,6 @@ ground-cell-spec =
     (tie.spec
     cast-height
     sub-if1
-    cave-requires
     returns
     select-block-requires
     returns-2
