@@ -5,6 +5,7 @@ ghost use lib.IntN.{pos, _*ℤ_};
 ghost use lib.Signed.{mag};
 ghost use Rattle.config.specs.Limits.{Between, Fine};
 ghost use Rattle.grid.specs.Cube.{Cube};
+ghost use Rattle.grid.specs.Count.{nonAirCount};
 ghost use Rattle.terrain.specs.World.{Tall, Near};
 ghost use Rattle.ground.specs.Ground.{groundIn, worldOf, frameOf, generateRefusal, reply, outcome, generateDoes};
 use config::ChunkPos;
@@ -43,20 +44,21 @@ fn lay(w: World, o: Frame, cells: &mut [u16])
     place_trees(o, sea, &heights, &biomes, cells);
 }
 
-// By place alone where one block fills the chunk: then no noise is taken.
-fn lay_chunk(w: World, o: Frame, cells: &mut [u16])
+// Lays the chunk and counts it: by place alone where one block fills it, since then no noise is taken and no cell looked at.
+fn lay_chunk(w: World, o: Frame, cells: &mut [u16]) -> usize
     requires { ⌜ Tall w × Near o × Cube (o .size) (now cells) ⌝ }
-    ensures { λ _. ⌜ now (cells .exit) ≡ groundIn w o ⌝ }
+    ensures { λ r. ⌜ (now (cells .exit) ≡ groundIn w o) × (r ≡ nonAirCount (groundIn w o)) ⌝ }
 {
     if is_deep(o) {
         fill(cells, STONE);
-        return;
+        return cells.len();
     }
     if is_sky(w, o) {
         fill(cells, AIR);
-        return;
+        return 0;
     }
     lay(w, o, cells);
+    count_non_air(cells)
 }
 
 // The first cell of a chunk along an axis.
@@ -116,6 +118,6 @@ pub fn generate(config: TerrainConfig, pos: ChunkPos, cells: &mut [u16]) -> Gene
     }
     let w = world_of(config);
     let o = frame_of(config, pos);
-    lay_chunk(w, o, cells);
-    Generated::Count(count_non_air(cells) as u32)
+    let count = lay_chunk(w, o, cells);
+    Generated::Count(count as u32)
 }

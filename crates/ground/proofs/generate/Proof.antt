@@ -64,21 +64,18 @@ lay-chunk-requires c κs =
     let q : Sound s p (length cs) = sound s p (length cs) z in
     (subst Tall (sym (c .before .before .world-of .ensures)) (tall-of s p (q .within)), subst Near (sym (c .before .frame-of .ensures)) (near-of s p (q .within)), subst (λ (o : Frame). Cube (o .size) cs) (sym (c .before .frame-of .ensures)) (record { most = q .within .most; all = q .all }))
 
-count-non-air-requires : tie.Need-count-non-air-requires
-count-non-air-requires c κs = search needs
-
-cast-t14 : tie.Need-cast-t14
-cast-t14 c =
-    let a = c .before .before .before .before .before .before .before .before .before .before .before .args in
+cast-t12 : tie.Need-cast-t12
+cast-t12 c =
+    let a = c .before .before .before .before .before .before .before .before .before .args in
     let s = a .config in
     let p = a .pos in
     let cs = a .cells .now in
-    let e : c .before .before .before .before .before .before .before .before .before .refusal-of .result ≡ generateRefusal s p (length cs) = c .before .before .before .before .before .before .before .before .before .refusal-of .ensures in
-    let z : generateRefusal s p (length cs) ≡ 0 = sym e ∙ c .before .before .before .before .before .before .before .before .if1 .left in
+    let e : c .before .before .before .before .before .before .before .refusal-of .result ≡ generateRefusal s p (length cs) = c .before .before .before .before .before .before .before .refusal-of .ensures in
+    let z : generateRefusal s p (length cs) ≡ 0 = sym e ∙ c .before .before .before .before .before .before .if1 .left in
     let q : Sound s p (length cs) = sound s p (length cs) z in
-    let laid = c .before .before .before .before .lay-chunk .last .1 .1 .0 in
-    let l : length laid ≡ length cs = c .before .before .before .before .lay-chunk .kept .1 .1 .0 in
-    let k : c .count-non-air .result ≡ nonAirCount laid = c .count-non-air .ensures in
+    let laid = c .before .before .lay-chunk .last .1 .1 .0 in
+    let l : length laid ≡ length cs = c .before .before .lay-chunk .kept .1 .1 .0 in
+    let k : c .before .before .lay-chunk .result ≡ nonAirCount laid = c .before .before .lay-chunk .ensures .1 ∙ ap nonAirCount (sym (c .before .before .lay-chunk .ensures .0)) in
     let most = count-most laid in
     let cube = cube-most (s .«chunk_size») (q .within .most) in
     let all = q .all in
@@ -90,17 +87,19 @@ same-length c = search needs
 returns-2 : tie.Need-returns-2
 unfolding generateDoes ground
 returns-2 c =
-    let a = c .before .before .before .before .before .before .before .before .before .before .before .args in
+    let a = c .before .before .before .before .before .before .before .before .before .args in
     let s = a .config in
     let p = a .pos in
     let cs = a .cells .now in
-    let e : c .before .before .before .before .before .before .before .before .before .refusal-of .result ≡ generateRefusal s p (length cs) = c .before .before .before .before .before .before .before .before .before .refusal-of .ensures in
-    let z : generateRefusal s p (length cs) ≡ 0 = sym e ∙ c .before .before .before .before .before .before .before .before .if1 .left in
+    let e : c .before .before .before .before .before .before .before .refusal-of .result ≡ generateRefusal s p (length cs) = c .before .before .before .before .before .before .before .refusal-of .ensures in
+    let z : generateRefusal s p (length cs) ≡ 0 = sym e ∙ c .before .before .before .before .before .before .if1 .left in
     let q : Sound s p (length cs) = sound s p (length cs) z in
-    let laid = c .before .before .before .before .lay-chunk .last .1 .1 .0 in
-    let g : laid ≡ groundIn (worldOf s) (frameOf s p) = c .before .before .before .before .lay-chunk .ensures ∙ ap₂ groundIn (c .before .before .before .before .before .before .before .world-of .ensures) (c .before .before .before .before .before .before .frame-of .ensures) in
+    let laid = c .before .before .lay-chunk .last .1 .1 .0 in
+    let r = c .before .before .lay-chunk .ensures in
+    let k : c .before .before .lay-chunk .result ≡ nonAirCount laid = r .1 ∙ ap nonAirCount (sym (r .0)) in
+    let g : laid ≡ groundIn (worldOf s) (frameOf s p) = r .0 ∙ ap₂ groundIn (c .before .before .before .before .before .world-of .ensures) (c .before .before .before .before .frame-of .ensures) in
     rw (eq-eqb (generateRefusal s p (length cs)) 0 z)
-    (ap (λ (k : ℕ). outcome (accepted k) laid) (c .count-non-air .ensures) ∙ ap (λ (d : List ℕ). outcome (accepted (nonAirCount d)) d) g)
+    (ap (λ (k : ℕ). outcome (accepted k) laid) k ∙ ap (λ (d : List ℕ). outcome (accepted (nonAirCount d)) d) g)
 
 pub generate-spec : {M : Type 1} → statement M
 generate-spec =
@@ -111,7 +110,6 @@ generate-spec =
     world-of-requires
     frame-of-requires
     lay-chunk-requires
-    count-non-air-requires
-    cast-t14
+    cast-t12
     same-length
     returns-2)
