@@ -1,6 +1,7 @@
 pub mod Pick
 pub mod Decimal
 pub mod Line
+pub mod Piece
 pub mod Field
 pub mod RoundTrip
 pub mod Sign
