@@ -104,12 +104,7 @@ fn answered(answer: raw::Answer) -> Result<usize, Refusal> {
 
 /// Lays the ground and writes the journal's first line.
 pub fn fresh(config: Config, pos: Pos, cells: &mut [u16], journal: &mut [u8]) -> Result<Session, Refusal> {
-    let (c, n, j, m) = (
-        cells.as_mut_ptr(),
-        cells.len(),
-        journal.as_mut_ptr(),
-        journal.len(),
-    );
+    let (c, n, j, m) = lent(cells, journal);
     started(unsafe { raw::pl_session_fresh(config, pos, c, n, j, m) }).map(|s| s.session)
 }
 
@@ -124,6 +119,12 @@ pub fn committed(journal: &[u8], held: usize) -> &[u8] {
     &journal[..unsafe { raw::pl_committed_len(journal.as_ptr(), journal.len(), held) }]
 }
 
+/// Cells and a journal as C takes them: a pointer and a length each.
+fn lent(cells: &mut [u16], journal: &mut [u8]) -> (*mut u16, usize, *mut u8, usize) {
+    let (n, m) = (cells.len(), journal.len());
+    (cells.as_mut_ptr(), n, journal.as_mut_ptr(), m)
+}
+
 impl Session {
     /// Sets one cell.
     pub fn set(
@@ -133,12 +134,7 @@ impl Session {
         [x, y, z]: [usize; 3],
         id: u16,
     ) -> Result<(), Refusal> {
-        let (c, n, j, m) = (
-            cells.as_mut_ptr(),
-            cells.len(),
-            journal.as_mut_ptr(),
-            journal.len(),
-        );
+        let (c, n, j, m) = lent(cells, journal);
         replied(unsafe { raw::pl_session_set(self, c, n, j, m, x, y, z, id) }).map(|_| ())
     }
 
@@ -151,12 +147,7 @@ impl Session {
         height: usize,
         id: u16,
     ) -> Result<(), Refusal> {
-        let (c, n, j, m) = (
-            cells.as_mut_ptr(),
-            cells.len(),
-            journal.as_mut_ptr(),
-            journal.len(),
-        );
+        let (c, n, j, m) = lent(cells, journal);
         replied(unsafe { raw::pl_session_fill_column(self, c, n, j, m, x, z, height, id) }).map(|_| ())
     }
 
@@ -167,23 +158,13 @@ impl Session {
         journal: &mut [u8],
         edits: &[u32],
     ) -> Result<usize, Refusal> {
-        let (c, n, j, m) = (
-            cells.as_mut_ptr(),
-            cells.len(),
-            journal.as_mut_ptr(),
-            journal.len(),
-        );
+        let (c, n, j, m) = lent(cells, journal);
         replied(unsafe { raw::pl_session_set_blocks(self, c, n, j, m, edits.as_ptr(), edits.len()) })
     }
 
     /// Takes the last active edit back.
     pub fn undo(&mut self, cells: &mut [u16], journal: &mut [u8]) -> Result<(), Refusal> {
-        let (c, n, j, m) = (
-            cells.as_mut_ptr(),
-            cells.len(),
-            journal.as_mut_ptr(),
-            journal.len(),
-        );
+        let (c, n, j, m) = lent(cells, journal);
         replied(unsafe { raw::pl_session_undo(self, c, n, j, m) }).map(|_| ())
     }
 }
