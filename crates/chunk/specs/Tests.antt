@@ -23,10 +23,6 @@ chunkRefusal size n = refusal (must (sizeOk size) 1 ∷ must (eqb n (size * size
 unfoldable pub cellRefusal : ℕ → ℕ → ℕ → ℕ → ℕ → ℕ
 cellRefusal size n x y z = refusal (passed (chunkRefusal size n) ∷ must (inside size x y z) 7 ∷ [])
 
--- "6 cell slice, or the one that replaces it, not size³ long."
-unfoldable pub replaceRefusal : ℕ → ℕ → ℕ → ℕ
-replaceRefusal size n m = refusal (passed (chunkRefusal size n) ∷ must (eqb m (size * size * size)) 6 ∷ [])
-
 -- 01, Refused because of the state: "a count above size³, or one that the edit as a whole would move outside 0 to size³"
 unfoldable pub countOk : ℕ → ℕ → ℕ → ℕ → Bool
 countOk size count before after =
@@ -102,17 +98,6 @@ cell-at size n x y z h =
 
 pub chunk-most : (size n : ℕ) → Chunk size n → n ≤ 262144
 chunk-most size n h = let l = cube-most size (h .most) in let e = h .all in omega arith
-
-pub record ReplaceOk (size n m : ℕ) : Type 0 where
-  pub chunk : Chunk size n
-  pub new : m ≡ size * size * size
-
-pub replace-passed : (size n m : ℕ) → replaceRefusal size n m ≡ 0 → ReplaceOk size n m
-unfolding replaceRefusal
-replace-passed size n m e =
-    let p = passed-zero (chunkRefusal size n) (must (eqb m (size * size * size)) 6 ∷ []) e in
-    let q = refusal-zero (eqb m (size * size * size)) 5 [] (p .1) in
-    record { chunk = chunk-passed size n (p .0); new = eqb-true m (size * size * size) (q .0) }
 
 pub record CountOk (size count before after : ℕ) : Type 0 where
   pub held : count ≤ size * size * size

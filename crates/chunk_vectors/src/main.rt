@@ -78,18 +78,18 @@ fn named(answer: BlockId, cells: &[u16]) {
 
 fn questions(kind: u32, q: Asked, cells: &[u16]) {
     if kind == 1 {
-        named(chunk::get(cells, q.size, q.a, q.b, q.c), cells);
+        named(chunk_look::get(cells, q.size, q.a, q.b, q.c), cells);
     } else if kind == 2 {
-        flagged(chunk::is_air(cells, q.size, q.a, q.b, q.c), cells);
+        flagged(chunk_look::is_air(cells, q.size, q.a, q.b, q.c), cells);
     } else if kind == 3 {
-        flagged(chunk::is_empty(cells, q.size), cells);
+        flagged(chunk_look::is_empty(cells, q.size), cells);
     } else {
-        flagged(chunk::is_solid(cells, q.size), cells);
+        flagged(chunk_look::is_solid(cells, q.size), cells);
     }
 }
 
 fn replace(q: Asked, cells: &mut [u16], blocks: &[u16]) {
-    let answer = chunk::replace_blocks(cells, q.size, blocks);
+    let answer = chunk_edit::replace_blocks(cells, q.size, blocks);
     counted(answer, cells);
 }
 
@@ -103,12 +103,12 @@ fn replaced(q: Asked, cells: &mut [u16]) {
 }
 
 fn set(q: Asked, cells: &mut [u16]) {
-    let answer = chunk::set(cells, q.size, q.count, q.a, q.b, q.c, q.id);
+    let answer = chunk_edit::set(cells, q.size, q.count, q.a, q.b, q.c, q.id);
     counted(answer, cells);
 }
 
 fn column(q: Asked, cells: &mut [u16]) {
-    let answer = chunk::fill_column(cells, q.size, q.count, q.a, q.b, q.c, q.id);
+    let answer = chunk_edit::fill_column(cells, q.size, q.count, q.a, q.b, q.c, q.id);
     counted(answer, cells);
 }
 

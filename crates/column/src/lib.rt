@@ -1,10 +1,16 @@
 // The height and the biome of a column of the world: `get_biome` of terrain.rs.
 ghost use mathlib.Core.Path.{_≡_};
-ghost use Rattle.column.specs.Column.{offsetFbm₃₂, scaledFbm₃₂, smoothRamp₃₂, ridge₃₂, ridgesOf, ridges₃₂, plateau₃₂, continent₃₂, hillBoost₃₂, coldBoost₃₂, reliefOf, climateOf, weightsOf, heightsOf, blend₃₂, dominantOf, clampOf, heightOf, surfaceOf, biomeAndHeight};
-use noise::fbm2d;
-use words::num::abs;
-use words::num::clamp;
-use words::num::floor;
+ghost use Rattle.column.specs.Column.{reliefOf, climateOf, weightsOf, heightsOf, blend₃₂, dominantOf, heightOf, surfaceOf, biomeAndHeight};
+use shapes::clamp_i32;
+use shapes::cold_boost;
+use shapes::continent;
+use shapes::hill_boost;
+use shapes::offset_fbm;
+pub use shapes::plateau;
+use shapes::ridges;
+pub use shapes::ridges_of;
+use shapes::scaled_fbm;
+use shapes::smooth_ramp;
 use words::num::max;
 use words::num::of_i32;
 use words::num::to_i32;
@@ -45,65 +51,6 @@ pub struct Relief {
 pub struct Surface {
     pub biome: Biome,
     pub height: i32,
-}
-
-fn offset_fbm(x: f32, z: f32, scale: f32, dx: f32, dz: f32, octaves: u32) -> f32
-    ensures { λ r. ⌜ r ≡ offsetFbm₃₂ x z scale dx dz octaves ⌝ }
-{
-    fbm2d(x * scale + dx, z * scale + dz, octaves)
-}
-
-fn scaled_fbm(x: f32, z: f32, scale: f32, octaves: u32) -> f32
-    ensures { λ r. ⌜ r ≡ scaledFbm₃₂ x z scale octaves ⌝ }
-{
-    fbm2d(x * scale, z * scale, octaves)
-}
-
-// From 0 to 1 around `edge`, smoothed.
-fn smooth_ramp(val: f32, edge: f32, width: f32) -> f32
-    ensures { λ r. ⌜ r ≡ smoothRamp₃₂ val edge width ⌝ }
-{
-    let t = clamp((val - edge) / width + 0.5, 0.0, 1.0);
-    t * t * (3.0 - 2.0 * t)
-}
-
-fn ridge(n: f32) -> f32
-    ensures { λ r. ⌜ r ≡ ridge₃₂ n ⌝ }
-{
-    1.0 - abs(n - 0.5) * 2.0
-}
-
-// The ridges of two noises.
-pub fn ridges_of(n1: f32, n2: f32) -> f32
-    ensures { λ r. ⌜ r ≡ ridgesOf n1 n2 ⌝ }
-{
-    let ridge1 = ridge(n1);
-    let ridge2 = ridge(n2);
-    ridge1 * ridge1 * 0.7 + ridge2 * ridge2 * 0.3
-}
-
-fn ridges(x: f32, z: f32) -> f32
-    ensures { λ r. ⌜ r ≡ ridges₃₂ x z ⌝ }
-{
-    let n1 = offset_fbm(x, z, 0.008, 500.0, 500.0, 4);
-    let n2 = offset_fbm(x, z, 0.015, 300.0, 200.0, 3);
-    ridges_of(n1, n2)
-}
-
-pub fn plateau(raw: f32) -> f32
-    ensures { λ r. ⌜ r ≡ plateau₃₂ raw ⌝ }
-{
-    let steps = floor(raw * 5.0) / 5.0;
-    steps * 0.6 + raw * 0.4
-}
-
-// The large shape, its coordinates warped by noise.
-fn continent(x: f32, z: f32) -> f32
-    ensures { λ r. ⌜ r ≡ continent₃₂ x z ⌝ }
-{
-    let warp_x = offset_fbm(x, z, 0.003, 700.0, 800.0, 3) * 40.0;
-    let warp_z = offset_fbm(x, z, 0.003, 900.0, 100.0, 3) * 40.0;
-    scaled_fbm(x + warp_x, z + warp_z, 0.004, 5)
 }
 
 fn relief_at(x: f32, z: f32) -> Relief
@@ -164,22 +111,6 @@ fn weights(c: Column) -> Column
     r
 }
 
-fn hill_boost(hill_factor: f32) -> f32
-    ensures { λ r. ⌜ r ≡ hillBoost₃₂ «hill_factor» ⌝ }
-{
-    if hill_factor > 0.65 {
-        (hill_factor - 0.65) * 80.0
-    } else {
-        0.0
-    }
-}
-
-fn cold_boost(temp: f32) -> f32
-    ensures { λ r. ⌜ r ≡ coldBoost₃₂ temp ⌝ }
-{
-    clamp((0.3 - temp) * 5.0, 0.0, 1.0)
-}
-
 // The four heights above the sea level `sl`.
 fn heights(c: Column, n: Relief, sl: f32) -> Column
     ensures { λ r. ⌜ r ≡ heightsOf c n sl ⌝ }
@@ -213,18 +144,6 @@ fn dominant_biome(c: Column) -> Biome
         Biome::Forest
     } else {
         Biome::Plains
-    }
-}
-
-fn clamp_i32(n: i32, lo: i32, hi: i32) -> i32
-    ensures { λ r. ⌜ r ≡ clampOf n lo hi ⌝ }
-{
-    if n < lo {
-        lo
-    } else if n > hi {
-        hi
-    } else {
-        n
     }
 }
 

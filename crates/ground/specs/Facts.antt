@@ -1,8 +1,7 @@
 -- What holds where `generate` refuses nothing. Assumes nothing.
-use mathlib.Core.Path.{_≡_, refl, ap, _∙_}
-use Prim.Native.Nat.{ℕ, zero, suc, _-_, _*_, _/_, _%_, _<_}
+use mathlib.Core.Path.{_≡_, ap, _∙_}
+use Prim.Native.Nat.{ℕ, _-_, _*_}
 use native.Mathlib.Omega.{arith}
-use mathlib.Core.List.{List}
 use lib.Dec.{eqb}
 use lib.IntN.{ℤ, pos, _-ℤ_}
 use borrow.Author.Tests.{eqb-true}
@@ -10,11 +9,7 @@ use Rattle.config.specs.Refusals.{passed-zero, refusal-zero}
 use Rattle.config.specs.Limits.{limitRefusal, configHeader, Between, one-less, Fine, fine}
 use Rattle.config.specs.declared.TerrainConfig.{TerrainConfig}
 use Rattle.config.specs.declared.ChunkPos.{ChunkPos}
-use Rattle.grid.specs.Cube.{steps}
 use Rattle.terrain.specs.World.{Tall, Near}
-use Rattle.terrain.specs.declared.world.Frame.{Frame}
-use Rattle.terrain.specs.declared.world.Top.{Top}
-use Rattle.features.specs.Features.{boulderColumn, boulderStep, bouldersOf, treeColumn, treeStep, treesOf}
 use Rattle.ground.specs.Ground.{worldOf, frameOf, generateRefusal}
 
 pub record Sound (s : TerrainConfig) (p : ChunkPos) (n : ℕ) : Type 0 where
@@ -41,17 +36,3 @@ tall-of s p f =
 pub near-of : (s : TerrainConfig) (p : ChunkPos) → Fine s p → Near (frameOf s p)
 unfolding frameOf
 near-of s p f = record { some = f .some; most = f .most; x = f .cx; y = f .cy; z = f .cz }
-
-steps-same : (n : ℕ) (f g : ℕ → List ℕ → List ℕ) (c : List ℕ) → ((k : ℕ) (d : List ℕ) → k < n → f k d ≡ g k d) → steps n f c ≡ steps n g c
-unfolding steps
-steps-same zero f g c h = refl
-steps-same (suc n) f g c h = h n (steps n f c) (omega arith) ∙ ap (g n) (steps-same n f g c (λ k d l. h k d (omega arith)))
-
--- passes over columns of equal tops are equal
-pub boulders-same : (o : Frame) (t u : ℕ → Top) (c : List ℕ) → ((k : ℕ) → k < o .size * o .size → t k ≡ u k) → bouldersOf o t c ≡ bouldersOf o u c
-unfolding bouldersOf boulderStep
-boulders-same o t u c h = steps-same (o .size * o .size) (boulderStep o t) (boulderStep o u) c (λ k d l. ap (λ (v : Top). boulderColumn o v (k % o .size) (k / o .size) d) (h k l))
-
-pub trees-same : (o : Frame) (sea : ℤ) (t u : ℕ → Top) (c : List ℕ) → ((k : ℕ) → k < o .size * o .size → t k ≡ u k) → treesOf o sea t c ≡ treesOf o sea u c
-unfolding treesOf treeStep
-trees-same o sea t u c h = steps-same (o .size * o .size) (treeStep o sea t) (treeStep o sea u) c (λ k d l. ap (λ (v : Top). treeColumn o sea v (k % o .size) (k / o .size) d) (h k l))

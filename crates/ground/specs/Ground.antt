@@ -12,16 +12,11 @@ use Rattle.config.specs.Limits.{limitRefusal, configHeader}
 use Rattle.config.specs.declared.TerrainConfig.{TerrainConfig}
 use Rattle.config.specs.declared.ChunkPos.{ChunkPos}
 use Rattle.grid.specs.Count.{nonAirCount}
-use Rattle.terrain.specs.Base.{baseCells}
 use Rattle.terrain.specs.declared.world.World.{World}
 use Rattle.terrain.specs.declared.world.Frame.{Frame}
-use Rattle.features.specs.Features.{bouldersOf, treesOf, topOf}
+unfoldable pub use Rattle.laying.specs.Laid.{groundIn}
 use Rattle.ground.specs.declared.Generated.{Generated}
 use Rattle.ground.specs.declared.Generated.the-variants.{Count, Refused}
-
--- the base, then boulders, then trees
-unfoldable pub groundIn : World → Frame → List ℕ
-groundIn w o = treesOf o (w .«sea_level») (topOf w o) (bouldersOf o (topOf w o) (baseCells w o))
 
 -- the seed moves the coordinates by 1,000 a step; the greatest height is one below the world's
 abbrev pub worldWith : Float → ℤ → ℤ → World

@@ -4,61 +4,18 @@ ghost use Prim.Native.Nat.{_≤_};
 ghost use lib.IntN.{pos, _*ℤ_};
 ghost use lib.Signed.{mag};
 ghost use Rattle.config.specs.Limits.{Between, Fine};
-ghost use Rattle.grid.specs.Cube.{Cube};
-ghost use Rattle.grid.specs.Count.{nonAirCount};
-ghost use Rattle.terrain.specs.World.{Tall, Near};
-ghost use Rattle.ground.specs.Ground.{groundIn, worldOf, frameOf, generateRefusal, reply, outcome, generateDoes};
+ghost use Rattle.ground.specs.Ground.{worldOf, frameOf, generateRefusal, reply, outcome, generateDoes};
 use config::ChunkPos;
 use config::TerrainConfig;
 use config::config_limits;
-use features::boulder::place_boulders;
-use features::tree::place_trees;
-use grid::count_non_air;
-use strata::lay_base;
-use terrain::block::AIR;
-use terrain::block::STONE;
+use laying::lay_chunk;
 use terrain::world::Frame;
 use terrain::world::World;
-use tops::note_tops;
-use uniform::fill;
-use uniform::is_deep;
-use uniform::is_sky;
 
 // The number of cells that are not air, or the number of the refusal.
 pub enum Generated {
     Count(u32),
     Refused(u32),
-}
-
-// Heights and biomes are kept for the whole chunk, as the Rust keeps them.
-fn lay(w: World, o: Frame, cells: &mut [u16])
-    requires { ⌜ Tall w × Near o × Cube (o .size) (now cells) ⌝ }
-    ensures { λ _. ⌜ now (cells .exit) ≡ groundIn w o ⌝ }
-{
-    let mut heights = [0u16; 4096];
-    let mut biomes = [0u8; 4096];
-    note_tops(w, o, &mut heights, &mut biomes);
-    lay_base(w, o, &heights, &biomes, cells);
-    place_boulders(o, &heights, &biomes, cells);
-    let sea = w.sea_level;
-    place_trees(o, sea, &heights, &biomes, cells);
-}
-
-// Lays the chunk and counts it: by place alone where one block fills it, since then no noise is taken and no cell looked at.
-fn lay_chunk(w: World, o: Frame, cells: &mut [u16]) -> usize
-    requires { ⌜ Tall w × Near o × Cube (o .size) (now cells) ⌝ }
-    ensures { λ r. ⌜ (now (cells .exit) ≡ groundIn w o) × (r ≡ nonAirCount (groundIn w o)) ⌝ }
-{
-    if is_deep(o) {
-        fill(cells, STONE);
-        return cells.len();
-    }
-    if is_sky(w, o) {
-        fill(cells, AIR);
-        return 0;
-    }
-    lay(w, o, cells);
-    count_non_air(cells)
 }
 
 // The first cell of a chunk along an axis.

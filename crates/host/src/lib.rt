@@ -8,7 +8,8 @@ ghost use Rattle.noise.specs.Hash.{hash2₃₂, hash3₃₂};
 ghost use Rattle.noise.specs.Noise.{noise2d₃₂, noise3d₃₂, fbm2d₃₂, fbm3d₃₂};
 ghost use Rattle.ground.specs.Ground.{reply, generateDoes};
 ghost use Rattle.chunk.specs.Replies.{saysCounted, saysId, saysFlag, yes};
-ghost use Rattle.chunk.specs.Calls.{getDoes, isAirDoes, isEmptyDoes, isSolidDoes, replaceDoes, setDoes, fillDoes};
+ghost use Rattle.chunk_look.specs.Calls.{getDoes, isAirDoes, isEmptyDoes, isSolidDoes};
+ghost use Rattle.chunk_edit.specs.Calls.{replaceDoes, setDoes, fillDoes};
 ghost use Rattle.chunk_batch.specs.Replies.{saysWritten};
 ghost use Rattle.chunk_batch.specs.Calls.{batchDoes};
 ghost use Rattle.chunk_border.specs.Border.{saysExtracted};
@@ -221,35 +222,35 @@ pub extern "C" fn pl_generate(config: TerrainConfig, pos: ChunkPos, cells: &mut 
 pub extern "C" fn pl_get(cells: &[u16], size: usize, x: usize, y: usize, z: usize) -> Answer
     ensures { λ r. ⌜ r ≡ answerOf (getDoes size (now (cells .entry)) x y z) ⌝ }
 {
-    id_answer(chunk::get(cells, size, x, y, z))
+    id_answer(chunk_look::get(cells, size, x, y, z))
 }
 
 #[no_mangle]
 pub extern "C" fn pl_is_air(cells: &[u16], size: usize, x: usize, y: usize, z: usize) -> Answer
     ensures { λ r. ⌜ r ≡ answerOf (isAirDoes size (now (cells .entry)) x y z) ⌝ }
 {
-    flag_answer(chunk::is_air(cells, size, x, y, z))
+    flag_answer(chunk_look::is_air(cells, size, x, y, z))
 }
 
 #[no_mangle]
 pub extern "C" fn pl_is_empty(cells: &[u16], size: usize) -> Answer
     ensures { λ r. ⌜ r ≡ answerOf (isEmptyDoes size (now (cells .entry))) ⌝ }
 {
-    flag_answer(chunk::is_empty(cells, size))
+    flag_answer(chunk_look::is_empty(cells, size))
 }
 
 #[no_mangle]
 pub extern "C" fn pl_is_solid(cells: &[u16], size: usize) -> Answer
     ensures { λ r. ⌜ r ≡ answerOf (isSolidDoes size (now (cells .entry))) ⌝ }
 {
-    flag_answer(chunk::is_solid(cells, size))
+    flag_answer(chunk_look::is_solid(cells, size))
 }
 
 #[no_mangle]
 pub extern "C" fn pl_replace_blocks(cells: &mut [u16], size: usize, blocks: &[u16]) -> Answer
     ensures { λ r. ⌜ answered r (now (cells .exit)) ≡ editInC (replaceDoes size (now (cells .entry)) (now (blocks .entry))) ⌝ }
 {
-    count_answer(chunk::replace_blocks(cells, size, blocks))
+    count_answer(chunk_edit::replace_blocks(cells, size, blocks))
 }
 
 #[no_mangle]
@@ -264,7 +265,7 @@ pub extern "C" fn pl_set(
 ) -> Answer
     ensures { λ r. ⌜ answered r (now (cells .exit)) ≡ editInC (setDoes size count (now (cells .entry)) x y z id) ⌝ }
 {
-    count_answer(chunk::set(cells, size, count, x, y, z, id))
+    count_answer(chunk_edit::set(cells, size, count, x, y, z, id))
 }
 
 #[no_mangle]
@@ -279,7 +280,7 @@ pub extern "C" fn pl_fill_column(
 ) -> Answer
     ensures { λ r. ⌜ answered r (now (cells .exit)) ≡ editInC (fillDoes size count (now (cells .entry)) x z height id) ⌝ }
 {
-    count_answer(chunk::fill_column(cells, size, count, x, z, height, id))
+    count_answer(chunk_edit::fill_column(cells, size, count, x, z, height, id))
 }
 
 #[no_mangle]

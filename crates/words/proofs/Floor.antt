@@ -21,9 +21,9 @@ use borrow.Author.Tests.{ltb-true, ltb-false, lt-ltb, le-ltb, eq-eqb, ne-eqb}
 use lib.Ieee.Casts.{toSigned-in}
 use mir.Syntax.{w32}
 use mir.ValLaws.{toZ-ofZ}
-use Rattle.words.proofs.Words.{again}
+use Rattle.wrapping.proofs.Words.{again}
 use Rattle.words.specs.Num.{floorQ, floor₃₂, floorI, toI32}
-use Rattle.words.proofs.Floats.{clash, one-zero}
+use Rattle.floats.proofs.Floats.{clash, one-zero}
 
 -- ---- a float that is a whole number
 pub record Is (y : Float) (s : Bool) (n : ℕ) : Type 0 where

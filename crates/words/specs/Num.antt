@@ -4,7 +4,8 @@ use Prim.Native.Nat.{ℕ, suc, _/_, _%_, _^_}
 use mathlib.Core.Bool.{Bool, true, false, cond}
 use lib.Dec.{eqb}
 use lib.IntN.{ℤ, pos, negsuc, negℤ}
-use lib.Ieee.{Float, nan, inf, fin, binary32, round, lt, le, eq, ofInt, toSigned}
+use lib.Ieee.{Float, nan, inf, fin, binary32, round, ofInt}
+unfoldable pub use Rattle.floats.specs.Num.{abs₃₂, clamp₃₂, max₃₂, toI32}
 
 -- a constant: the f32 nearest to n / d, ties to even
 unfoldable pub nearest : ℕ → ℕ → Float
@@ -23,24 +24,6 @@ floor₃₂ nan = nan
 floor₃₂ (inf s) = inf s
 floor₃₂ (fin s m (pos k)) = fin s m (pos k)
 floor₃₂ (fin s m (negsuc k)) = ofInt binary32 (floorQ s m (2 ^ suc k))
-
--- "absolute value": the sign is dropped, of -0 too
-unfoldable pub abs₃₂ : Float → Float
-abs₃₂ nan = nan
-abs₃₂ (inf s) = inf false
-abs₃₂ (fin s m e) = fin false m e
-
--- "clamp": lo below lo, hi above hi, else x as it is, so -0 and a NaN too. Where lo is above hi, lo wins.
-unfoldable pub clamp₃₂ : Float → Float → Float → Float
-clamp₃₂ x lo hi = cond (lt x lo) lo (cond (lt hi x) hi x)
-
--- "max": the greater of the two, a where they are equal, and where one is a NaN the other
-unfoldable pub max₃₂ : Float → Float → Float
-max₃₂ a b = cond (le b a) a (cond (eq b b) b a)
-
--- "To i32: toward zero, ends saturate, NaN gives 0": `toSigned 31`, for 31 bits and a sign
-unfoldable pub toI32 : Float → ℤ
-toI32 x = toSigned 31 x
 
 -- `x.floor() as i32`
 unfoldable pub floorI : Float → ℤ

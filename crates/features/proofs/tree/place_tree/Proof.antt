@@ -16,7 +16,6 @@ use Rattle.terrain.specs.World.{localY}
 use Rattle.terrain.proofs.Signed.{back}
 use Rattle.features.specs.Signs.{plus, hash2-plus}
 use Rattle.features.specs.Features.{plantOf, treeHash, varietyOf, treeGrows, isGiant, placeTree}
-use Rattle.features.proofs.Radii.{low}
 use Rattle.features.proofs.tree.place_tree.Statement.{statement}
 use Rattle.features.proofs.tree.place_tree.Tie as tie
 

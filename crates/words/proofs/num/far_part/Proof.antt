@@ -10,7 +10,7 @@ use mir.Syntax.{w32}
 use mir.Val.{ofZ, toZ}
 use mir.ValLaws.{toZ-ofZ}
 use Rattle.words.specs.Num.{floorI, toI32}
-use Rattle.words.proofs.Floats.{is-T}
+use Rattle.floats.proofs.Floats.{is-T}
 use Rattle.words.proofs.Floor.{Fast, lift, sink, fast-above, fast-below, far-above, far-below}
 use borrow.Author.Needs.{needs}
 use Rattle.words.proofs.num.far_part.Statement.{statement}

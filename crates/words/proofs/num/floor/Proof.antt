@@ -2,7 +2,7 @@
 use mathlib.Core.Path.{_≡_, _∙_, subst}
 use mathlib.Core.Bool.{true, false}
 use lib.Ieee.{Float, lt, ofBits, neg}
-use Rattle.words.proofs.Floats.{is-T}
+use Rattle.floats.proofs.Floats.{is-T}
 use Rattle.words.proofs.Floor.{floor-part-is, floor-far-above, floor-far-below}
 use borrow.Author.Needs.{needs}
 use Rattle.words.proofs.num.floor.Statement.{statement}

@@ -8,7 +8,7 @@ use lib.Ieee.{fin, lt, ofBits, neg, toSigned}
 use lib.Ieee.Casts.{toSigned-in}
 use mir.Syntax.{w32}
 use mir.ValLaws.{toZ-ofZ}
-use Rattle.words.proofs.Floats.{is-T, both}
+use Rattle.floats.proofs.Floats.{is-T, both}
 use Rattle.words.proofs.Floor.{Fast, fast-centre}
 use Rattle.words.proofs.num.floor_part.Statement.{statement}
 use Rattle.words.proofs.num.floor_part.Tie as tie

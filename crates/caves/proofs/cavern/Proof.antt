@@ -1,0 +1,20 @@
+-- `caves::cavern` meets its contract. Assumes nothing.
+use borrow.Author.Needs.{needs}
+use lib.Ieee.{ofBits, neg}
+use Rattle.words.specs.Num.{nearest}
+use Rattle.caves.specs.Caves.{largeCavern}
+use Rattle.caves.proofs.cavern.Statement.{statement}
+use Rattle.caves.proofs.cavern.Tie as tie
+
+fbm3d-requires : tie.Need-fbm3d-requires
+fbm3d-requires c κs = search needs
+
+clamp-requires : tie.Need-clamp-requires
+clamp-requires c κs = search needs
+
+returns : tie.Need-returns
+unfolding largeCavern nearest ofBits neg
+returns c = simp (c .clamp .ensures, c .before .fbm3d .ensures)
+
+pub cavern-spec : {M : Type 1} → statement M
+cavern-spec = tie.close (tie.spec fbm3d-requires clamp-requires returns)

@@ -1,0 +1,102 @@
+// The cells of a chunk, borrowed: replacing all of them, setting one and filling a column. Every call
+// answers a refusal number of its own for arguments that it does not take, and then leaves the cells
+// as they were.
+ghost use mathlib.Core.Path.{_≡_};
+ghost use lib.ListN.{length};
+ghost use Rattle.chunk.specs.Replies.{saysCounted};
+ghost use Rattle.chunk.specs.Calls.{outcome};
+ghost use Rattle.chunk_edit.specs.Calls.{replaceRefusal, replaceDoes, setDoes, fillDoes};
+use chunk::Counted;
+
+// Refusal 1 or 6 of the cells and of the slice that replaces them, or 0.
+fn refuse_replace(size: usize, n: usize, m: usize) -> u32
+    ensures { λ r. ⌜ r ≡ replaceRefusal size n m ⌝ }
+{
+    let k = chunk::refuse_chunk(size, n);
+    if k != 0 {
+        return k;
+    }
+    if m != n {
+        return 6;
+    }
+    0
+}
+
+// Copies the blocks over the cells.
+fn copy(cells: &mut [u16], blocks: &[u16])
+    requires { ⌜ length (now cells) ≡ length (now blocks) ⌝ }
+    ensures { λ _. ⌜ now (cells .exit) ≡ now (blocks .entry) ⌝ }
+{
+    let mut i = 0;
+    while i < blocks.len() {
+        cells[i] = blocks[i];
+        i += 1;
+    }
+}
+
+// Replaces all cells, and counts them anew.
+pub fn replace_blocks(cells: &mut [u16], size: usize, blocks: &[u16]) -> Counted
+    ensures { λ r. ⌜ outcome (saysCounted r) (now (cells .exit)) ≡ replaceDoes size (now (cells .entry)) (now (blocks .entry)) ⌝ }
+{
+    let k = refuse_replace(size, cells.len(), blocks.len());
+    if k != 0 {
+        return Counted::Refused(k);
+    }
+    copy(cells, blocks);
+    let n = grid::count_non_air(blocks);
+    Counted::Count(n as u32)
+}
+
+// Sets one cell.
+pub fn set(
+    cells: &mut [u16],
+    size: usize,
+    count: u32,
+    x: usize,
+    y: usize,
+    z: usize,
+    id: u16,
+) -> Counted
+    ensures { λ r. ⌜ outcome (saysCounted r) (now (cells .exit)) ≡ setDoes size count (now (cells .entry)) x y z id ⌝ }
+{
+    let k = chunk::refuse_cell(size, cells.len(), x, y, z);
+    if k != 0 {
+        return Counted::Refused(k);
+    }
+    let i = grid::cell_index(size, x, y, z);
+    let before = chunk::non_air(cells[i]);
+    let after = chunk::non_air(id);
+    let m = chunk::refuse_count(size, count, before, after);
+    if m != 0 {
+        return Counted::Refused(m);
+    }
+    cells[i] = id;
+    Counted::Count(count + after - before)
+}
+
+// Fills a column from the bottom.
+pub fn fill_column(
+    cells: &mut [u16],
+    size: usize,
+    count: u32,
+    x: usize,
+    z: usize,
+    height: usize,
+    id: u16,
+) -> Counted
+    ensures { λ r. ⌜ outcome (saysCounted r) (now (cells .exit)) ≡ fillDoes size count (now (cells .entry)) x z height id ⌝ }
+{
+    let k = chunk::refuse_chunk(size, cells.len());
+    if k != 0 {
+        return Counted::Refused(k);
+    }
+    let h = chunk::column_height(size, x, z, height);
+    let before = chunk::column_count(cells, size, x, z, h);
+    let after = h as u32 * chunk::non_air(id);
+    let m = chunk::refuse_count(size, count, before, after);
+    if m != 0 {
+        return Counted::Refused(m);
+    }
+    chunk::lay_column(cells, size, x, z, h, id);
+    Counted::Count(count + after - before)
+}

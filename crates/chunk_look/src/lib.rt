@@ -1,0 +1,55 @@
+// The cells of a chunk, borrowed: reading a cell and asking about all of them. Every call answers a
+// refusal number of its own for arguments that it does not take.
+ghost use mathlib.Core.Path.{_≡_};
+ghost use Rattle.chunk.specs.Replies.{saysId, saysFlag};
+ghost use Rattle.chunk_look.specs.Calls.{getDoes, isAirDoes, isEmptyDoes, isSolidDoes};
+use chunk::BlockId;
+use chunk::Flag;
+
+// The id of a cell.
+pub fn get(cells: &[u16], size: usize, x: usize, y: usize, z: usize) -> BlockId
+    ensures { λ r. ⌜ saysId r ≡ getDoes size (now (cells .entry)) x y z ⌝ }
+{
+    let k = chunk::refuse_cell(size, cells.len(), x, y, z);
+    if k != 0 {
+        return BlockId::Refused(k);
+    }
+    let i = grid::cell_index(size, x, y, z);
+    BlockId::Id(cells[i])
+}
+
+// Whether a cell is air.
+pub fn is_air(cells: &[u16], size: usize, x: usize, y: usize, z: usize) -> Flag
+    ensures { λ r. ⌜ saysFlag r ≡ isAirDoes size (now (cells .entry)) x y z ⌝ }
+{
+    let k = chunk::refuse_cell(size, cells.len(), x, y, z);
+    if k != 0 {
+        return Flag::Refused(k);
+    }
+    let i = grid::cell_index(size, x, y, z);
+    Flag::Answer(cells[i] == 0)
+}
+
+// Whether every cell is air.
+pub fn is_empty(cells: &[u16], size: usize) -> Flag
+    ensures { λ r. ⌜ saysFlag r ≡ isEmptyDoes size (now (cells .entry)) ⌝ }
+{
+    let k = chunk::refuse_chunk(size, cells.len());
+    if k != 0 {
+        return Flag::Refused(k);
+    }
+    let n = grid::count_non_air(cells);
+    Flag::Answer(n == 0)
+}
+
+// Whether no cell is air.
+pub fn is_solid(cells: &[u16], size: usize) -> Flag
+    ensures { λ r. ⌜ saysFlag r ≡ isSolidDoes size (now (cells .entry)) ⌝ }
+{
+    let k = chunk::refuse_chunk(size, cells.len());
+    if k != 0 {
+        return Flag::Refused(k);
+    }
+    let n = grid::count_non_air(cells);
+    Flag::Answer(n == cells.len())
+}

@@ -1,0 +1,50 @@
+-- `crown::leaf_hash` meets its contract. Assumes nothing.
+use borrow.Author.Needs.{needs}
+use mathlib.Core.Path.{ap₂, _∙_}
+use mathlib.Core.List.{[]}
+use mir.Syntax.{w32}
+use mir.ValLaws.{toZ-ofZ}
+use Rattle.words.specs.Laws.{read}
+use Rattle.words.specs.Wrap.{addW}
+use Rattle.noise.specs.Hash.{hash2₃₂}
+use Rattle.crown.specs.Crown.{leafHash}
+use Rattle.crown.proofs.leaf_hash.Statement.{statement}
+use Rattle.crown.proofs.leaf_hash.Tie as tie
+
+diff-requires : tie.Need-diff-requires
+diff-requires c κs = search needs
+
+wrapping-add-requires : tie.Need-wrapping-add-requires
+wrapping-add-requires c κs = search needs
+
+diff-requires-2 : tie.Need-diff-requires-2
+diff-requires-2 c κs = search needs
+
+wrapping-add-requires-2 : tie.Need-wrapping-add-requires-2
+wrapping-add-requires-2 c κs = search needs
+
+diff-requires-3 : tie.Need-diff-requires-3
+diff-requires-3 c κs = search needs
+
+wrapping-add-requires-3 : tie.Need-wrapping-add-requires-3
+wrapping-add-requires-3 c κs = search needs
+
+hash2-requires : tie.Need-hash2-requires
+hash2-requires c κs = search needs
+
+returns : tie.Need-returns
+unfolding leafHash
+returns c = let s = c .before .before .before .before .before .before .before in let a = s .args in c .hash2 .ensures ∙ ap₂ hash2₃₂ (read w32 (c .before .before .before .before .before .wrapping-add .ok) (c .before .before .before .before .before .wrapping-add .ensures ∙ ap₂ addW (toZ-ofZ w32 (a .wx) (s .fits .wx)) (read w32 (c .before .before .before .before .before .before .diff .ok) (c .before .before .before .before .before .before .diff .ensures)))) (read w32 (c .before .wrapping-add3 .ok) (c .before .wrapping-add3 .ensures ∙ ap₂ addW (read w32 (c .before .before .before .wrapping-add2 .ok) (c .before .before .before .wrapping-add2 .ensures ∙ ap₂ addW (toZ-ofZ w32 (a .wz) (s .fits .wz)) (read w32 (c .before .before .before .before .diff2 .ok) (c .before .before .before .before .diff2 .ensures)))) (read w32 (c .before .before .diff3 .ok) (c .before .before .diff3 .ensures))))
+
+pub leaf-hash-spec : {M : Type 1} → statement M
+leaf-hash-spec =
+    tie.close
+    (tie.spec
+    diff-requires
+    wrapping-add-requires
+    diff-requires-2
+    wrapping-add-requires-2
+    diff-requires-3
+    wrapping-add-requires-3
+    hash2-requires
+    returns)

@@ -1,0 +1,44 @@
+// The integer hashes of noise.rs. Every f32 operation stands in its order.
+ghost use mathlib.Core.Path.{_≡_};
+ghost use Rattle.hashes.specs.Hash.{unit31, hash2₃₂, hash3₃₂};
+use words::wrap::fold_13;
+use words::wrap::fold_16;
+use words::wrap::low_bits;
+use words::wrap::wrapping_add;
+use words::wrap::wrapping_mul;
+
+// A 31-bit number as a fraction. The Rust divides by 0x7fffffff as f32, which is 2^31; so 1.0 can come out.
+pub fn unit(n: u32) -> f32
+    ensures { λ r. ⌜ r ≡ unit31 n ⌝ }
+{
+    std::num::nearest_u32_to_f32(n) / 2147483648.0
+}
+
+// 2D integer hash, from 0 to 1.
+pub fn hash2(x: i32, y: i32) -> f32
+    ensures { λ r. ⌜ r ≡ hash2₃₂ x y ⌝ }
+{
+    let mut h = wrapping_add(
+        wrapping_add(wrapping_mul(x, 374761393), wrapping_mul(y, 668265263)),
+        1376312589,
+    );
+    h = wrapping_mul(fold_13(h), 1274126177);
+    h = fold_16(h);
+    unit(low_bits(h))
+}
+
+// 3D integer hash, from 0 to 1. The last multiplier is 2246822519 modulo 2^32.
+pub fn hash3(x: i32, y: i32, z: i32) -> f32
+    ensures { λ r. ⌜ r ≡ hash3₃₂ x y z ⌝ }
+{
+    let mut h = wrapping_add(
+        wrapping_add(
+            wrapping_add(wrapping_mul(x, 374761393), wrapping_mul(y, 668265263)),
+            wrapping_mul(z, 1274126177),
+        ),
+        1376312589,
+    );
+    h = wrapping_mul(fold_13(h), -2048144777);
+    h = fold_16(h);
+    unit(low_bits(h))
+}
