@@ -4,11 +4,10 @@ use Prim.Native.Nat.{ℕ}
 use mathlib.Core.List.{List}
 use lib.Ieee.{Float, neg}
 use Rattle.words.specs.Num.{nearest}
-use Rattle.noise_rows.specs.Row.{at, Row}
+use Rattle.noise_tables.specs.Row.{at, Row}
+use Rattle.column_tables.specs.Coords.{Tabled}
 use Rattle.column.specs.Floats.{_+f_, _*f_, nat}
-use Rattle.column.specs.Column.{offsetFbm₃₂, scaledFbm₃₂, continent₃₂, plateau₃₂, ridgesOf, columnWith}
-use Rattle.column.specs.declared.Column.{Column}
-use Rattle.column.specs.declared.Relief.{Relief}
+use Rattle.column.specs.Column.{offsetFbm₃₂, scaledFbm₃₂, continent₃₂}
 
 -- x * scale + dx, and x * scale
 unfoldable pub offsetAt : List Float → Float → Float → ℕ → Float
@@ -39,6 +38,10 @@ pub record ClimateRows (n : ℕ) (xs : List Float) (z : Float) (temp moisture : 
   pub warm : Row n (offsetRow xs z (nearest 3 1000) (nat 100) (nat 100) 4) temp
   pub wet : Row n (offsetRow xs z (nearest 4 1000) (neg (nat 200)) (nat 300) 4) moisture
 
+-- wherever the tables tell of the places xs
+pub record ClimateBy (n : ℕ) (z : Float) (floors : List ℕ) (eases temp moisture : List Float) : Type 0 where
+  pub is : (xs : List Float) → Tabled n xs floors eases → ClimateRows n xs z temp moisture
+
 -- the noise of the relief, in three parts
 pub record HeightRows (n : ℕ) (xs : List Float) (z : Float) (continent detail micro : List Float) : Type 0 where
   pub large : Row n (continentRow xs z) continent
@@ -49,22 +52,13 @@ pub record RidgeRows (n : ℕ) (xs : List Float) (z : Float) (ridge1 ridge2 : Li
   pub first : Row n (offsetRow xs z (nearest 8 1000) (nat 500) (nat 500) 4) ridge1
   pub second : Row n (offsetRow xs z (nearest 15 1000) (nat 300) (nat 200) 3) ridge2
 
+pub record RidgeBy (n : ℕ) (z : Float) (floors : List ℕ) (eases ridge1 ridge2 : List Float) : Type 0 where
+  pub is : (xs : List Float) → Tabled n xs floors eases → RidgeRows n xs z ridge1 ridge2
+
 pub record LowlandRows (n : ℕ) (xs : List Float) (z : Float) (steps dune hill : List Float) : Type 0 where
   pub stepped : Row n (offsetRow xs z (nearest 6 1000) (neg (nat 400)) (nat 600) 3) steps
   pub dunes : Row n (offsetRow xs z (nearest 2 100) (nat 50) (nat 50) 3) dune
   pub hills : Row n (offsetRow xs z (nearest 1 100) (nat 150) (nat 250) 3) hill
 
--- the climate and the relief at place i, of such rows
-unfoldable pub climateIn : List Float → List Float → ℕ → Column
-climateIn temp moisture i = columnWith (at temp i) (at moisture i) (nat 0) (nat 0) (nat 0) (nat 0) (nat 0) (nat 0) (nat 0) (nat 0)
-
-unfoldable pub reliefIn : List Float → List Float → List Float → List Float → List Float → List Float → List Float → List Float → ℕ → Relief
-reliefIn continent detail micro ridge1 ridge2 steps dune hill i = record {
-  continent = at continent i;
-  detail = at detail i;
-  micro = at micro i;
-  ridges = ridgesOf (at ridge1 i) (at ridge2 i);
-  plateau = plateau₃₂ (at steps i);
-  dune = at dune i;
-  «hill_factor» = at hill i;
-}
+pub record LowlandBy (n : ℕ) (z : Float) (floors : List ℕ) (eases steps dune hill : List Float) : Type 0 where
+  pub is : (xs : List Float) → Tabled n xs floors eases → LowlandRows n xs z steps dune hill

@@ -1,62 +1,32 @@
--- The sums of octaves along a column, and what they say of its cells. Assumes nothing.
-use mathlib.Core.Path.{_≡_, refl, sym, ap, ap₂, _∙_}
+-- The sums of octaves along a row, and what they say of its cells. Assumes nothing.
+use mathlib.Core.Path.{_≡_, refl, sym, ap, _∙_}
 use mathlib.Core.List.{List}
 use mathlib.Core.Bool.{Bool, true, false, _&&_, _||_}
-use Prim.Native.Nat.{ℕ, _+_, _≤_, _<_}
-use lib.IntN.{ℤ, pos, _+ℤ_}
-use lib.Ieee.{Float, nan, lt}
+use Prim.Native.Nat.{ℕ, _+_, _*_, _≤_, _<_}
 use native.Mathlib.Omega.{arith}
 use lib.Dec.{ltb}
+use lib.IntN.{ℤ, pos, _+ℤ_}
+use lib.Ieee.{Float, lt}
 use lib.ListN.{length, getD, set, length-set}
 use lib.Seq.{getD-set-same, getD-set-other}
 use borrow.Author.Tests.{ltb-true, ltb-false}
 use Rattle.words.specs.Num.{nearest, clamp₃₂}
-use Rattle.noise_column.specs.Kept.{pillarOf, valueAt}
-use Rattle.noise_column.specs.Sums.{Added}
-use Rattle.noise_column.specs.declared.Pillar.{Pillar}
 use Rattle.column.specs.Floats.{_+f_, _-f_, _*f_, _/f_, nat, real, square}
+use Rattle.noise_tables.specs.Row.{at}
+use Rattle.noise_layers.specs.Layers.{octaveAt}
 use Rattle.terrain.specs.Caves.{carved}
+use Rattle.terrain.specs.declared.world.Frame.{Frame}
+use Rattle.hollow.specs.Layers.{levelAt, depthAt}
 
-pub record Zeros (s : List Float) : Type 0 where
-  pub long : length s ≡ 64
-  pub each : (y : ℕ) → y < 64 → getD s y nan ≡ nat 0
+-- octave o at cell i of the row
+abbrev pub oneOf : ℕ → ℕ → ℕ → List Float → List Float → ℕ → Float
+oneOf o y z eases edges i = octaveAt o (levelAt o y) (depthAt o z) eases edges i
 
--- the tables reach far enough for the cells from lo to hi
-pub record Within (base lo hi : ℕ) (floors : List ℕ) (eases : List Float) : Type 0 where
-  pub some : lo < hi
-  pub most : hi ≤ 64
-  pub low : base < 65536
-  pub levels : base + hi ≤ length floors
-  pub fractions : base + hi ≤ length eases
+unfoldable pub sum2Of : ℕ → ℕ → ℕ → List Float → List Float → ℕ → Float
+sum2Of o y z eases edges i = nat 0 +f oneOf o y z eases edges i *f nat 1 +f oneOf (o + 1) y z eases edges i *f nearest 1 2
 
--- the cells from lo to hi hold what f says
-pub record Filled (f : ℕ → Float) (lo hi : ℕ) (s : List Float) : Type 0 where
-  pub long : length s ≡ 64
-  pub each : (y : ℕ) → lo ≤ y → y < hi → getD s y nan ≡ f y
-
--- one octave at cell y, by the tables
-abbrev pub octaveAt : Float → Float → Float → Float → ℕ → List ℕ → List Float → ℕ → Float
-octaveAt x z freq amp base floors eases y = valueAt (pillarOf (x *f freq) (z *f freq)) (getD floors (base + y) 0) (getD eases (base + y) nan) *f amp
-
-unfoldable pub sum2Of : Float → Float → ℕ → List ℕ → List Float → ℕ → Float
-sum2Of x z base floors eases y =
-    nat 0 +f octaveAt x z (nat 1) (nat 1) base floors eases y +f octaveAt x z (nat 2) (nearest 1 2) (base + 64) floors eases y
-
-unfoldable pub sum3Of : Float → Float → ℕ → List ℕ → List Float → ℕ → Float
-sum3Of x z base floors eases y = sum2Of x z base floors eases y +f octaveAt x z (nat 4) (nearest 1 4) (base + 128) floors eases y
-
--- a fill of zeros, and one with an octave more
-pub filled-none : {s : List Float} (lo hi : ℕ) → hi ≤ 64 → Zeros s → Filled (λ (y : ℕ). nat 0) lo hi s
-filled-none lo hi h z = record { long = z .long; each = λ (y : ℕ) l m. z .each y (omega arith) }
-
-module _ {f : ℕ → Float} {lo hi : ℕ} {old new : List Float} (x z freq amp : Float) (base : ℕ) (floors : List ℕ) (eases : List Float) (p : Pillar) where
-  pub filled-more : p ≡ pillarOf (x *f freq) (z *f freq) → Filled f lo hi old → Added p amp base lo hi floors eases old new
-      → Filled (λ (y : ℕ). f y +f octaveAt x z freq amp base floors eases y) lo hi new
-  filled-more e g a = record {
-    long = a .long ∙ g .long;
-    each = λ (y : ℕ) l m. a .more y l m
-        ∙ ap₂ (λ (u : Float) (q : Pillar). u +f valueAt q (getD floors (base + y) 0) (getD eases (base + y) nan) *f amp) (g .each y l m) e;
-  }
+unfoldable pub sum3Of : ℕ → ℕ → ℕ → List Float → List Float → ℕ → Float
+sum3Of o y z eases edges i = sum2Of o y z eases edges i +f oneOf (o + 2) y z eases edges i *f nearest 1 4
 
 -- a cell by the sums of the three fields; the sums of the amplitudes are 1.75 and 1.5
 unfoldable pub hollowOf : Float → Float → Float → Float → Float → Bool → Bool
@@ -65,30 +35,30 @@ hollowOf a b c y h cut =
     || lt (nearest 7 10 -f (nat 1 -f clamp₃₂ (y /f h) (nat 0) (nat 1)) *f nearest 15 100) (c /f nearest 3 2)
     || (cut && lt (h -f nat 20) y && lt y (h -f nat 1))
 
--- the flags from lo to hi are those of the sums
-pub record Judged (a b c : List Float) (cut : Bool) (oy : ℤ) (h : Float) (lo hi : ℕ) (old new : List Bool) : Type 0 where
-  pub long : length new ≡ length old
-  pub each : (y : ℕ) → lo ≤ y → y < hi → getD new y false ≡ hollowOf (getD a y nan) (getD b y nan) (getD c y nan) (real (oy +ℤ pos y)) h cut
+-- cell i of a row, whose columns' heights begin at k
+unfoldable pub judgedAt : Float → ℕ → List ℕ → List Bool → List Float → List Float → List Float → ℕ → Bool
+judgedAt y k heights cuts a b c i = hollowOf (at a i) (at b i) (at c i) y (real (pos (getD heights (k + i) 0))) (getD cuts i false)
 
-module _ (a b c : List Float) (cut : Bool) (oy : ℤ) (h : Float) (lo : ℕ) (old : List Bool) where
-  abbrev at : ℕ → Bool
-  at y = hollowOf (getD a y nan) (getD b y nan) (getD c y nan) (real (oy +ℤ pos y)) h cut
+-- the first n flags are those of the sums
+pub record Judged (y : Float) (k n : ℕ) (heights : List ℕ) (cuts : List Bool) (a b c : List Float) (flags : List Bool) : Type 0 where
+  pub each : (i : ℕ) → i < n → getD flags i false ≡ judgedAt y k heights cuts a b c i
 
-  pub judged-none : (y : ℕ) → y ≡ lo → Judged a b c cut oy h lo y old old
-  judged-none y e = record { long = refl; each = λ (j : ℕ) l m. absurd (omega arith) }
+module _ (y : Float) (k : ℕ) (heights : List ℕ) (cuts : List Bool) (a b c : List Float) where
+  pub judged-none : (flags : List Bool) → Judged y k 0 heights cuts a b c flags
+  judged-none flags = record { each = λ (i : ℕ) h. absurd (omega arith) }
 
-  pub judged-more : (y : ℕ) (new : List Bool) (v : Bool) → y < length new → v ≡ at y → Judged a b c cut oy h lo y old new
-      → Judged a b c cut oy h lo (y + 1) old (set new y v)
-  judged-more y new v k e g = record { long = length-set new y v ∙ g .long; each = λ (j : ℕ) l m. each j l m (ltb j y) refl }
+  pub judged-more : (n : ℕ) (flags : List Bool) (v : Bool) → n < length flags → v ≡ judgedAt y k heights cuts a b c n → Judged y k n heights cuts a b c flags
+      → Judged y k (n + 1) heights cuts a b c (set flags n v)
+  judged-more n flags v h e g = record { each = λ (i : ℕ) l. here i l (ltb i n) refl }
     where
-      each : (j : ℕ) → lo ≤ j → j < y + 1 → (t : Bool) → ltb j y ≡ t → getD (set new y v) j false ≡ at j
-      each j l m true t =
-          let i = ltb-true j y t in
-          getD-set-other new y j v false (λ (q : j ≡ y). omega arith) ∙ g .each j l i
-      each j l m false t =
-          let i : j ≡ y = (let d = ltb-false j y t in omega arith) in
-          ap (λ (u : ℕ). getD (set new y v) u false) i ∙ getD-set-same new y v false k ∙ e ∙ ap at (sym i)
+      here : (i : ℕ) → i < n + 1 → (t : Bool) → ltb i n ≡ t → getD (set flags n v) i false ≡ judgedAt y k heights cuts a b c i
+      here i l true t =
+          let m = ltb-true i n t in
+          getD-set-other flags n i v false (λ (q : i ≡ n). omega arith) ∙ g .each i m
+      here i l false t =
+          let m : i ≡ n = (let d = ltb-false i n t in omega arith) in
+          ap (λ (u : ℕ). getD (set flags n v) u false) m ∙ getD-set-same flags n v false h ∙ e ∙ ap (judgedAt y k heights cuts a b c) (sym m)
 
--- the flags from lo to hi say where the column is hollow
-pub record Hollow (wx wz oy h : ℤ) (lo hi : ℕ) (flags : List Bool) : Type 0 where
-  pub each : (y : ℕ) → lo ≤ y → y < hi → getD flags y false ≡ carved wx (oy +ℤ pos y) wz h
+-- the flags say which cells of the row at z are hollow at level y
+pub record Hollow (f : Frame) (y z : ℕ) (heights : List ℕ) (flags : List Bool) : Type 0 where
+  pub each : (x : ℕ) → x < f .size → getD flags x false ≡ carved (f .ox +ℤ pos x) (f .oy +ℤ pos y) (f .oz +ℤ pos z) (pos (getD heights (z * f .size + x) 0))

@@ -1,3 +1,3 @@
-pub mod Levels
+pub mod Layers
 pub mod Fields
 pub mod Laws

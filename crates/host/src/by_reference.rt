@@ -61,7 +61,7 @@ pub extern "C" fn pl_session_undo(
 ) -> Reply
     ensures { λ r. ⌜ outcome (now (session .exit)) r (now (cells .exit)) (now (journal .exit)) ≡ undoDoes (now (session .entry)) (now (cells .entry)) (now (journal .entry)) ⌝ }
 {
-    let b = open_session::undo(*session, cells, journal);
+    let b = undo::undo(*session, cells, journal);
     *session = b.session;
     b.reply
 }

@@ -26,7 +26,8 @@ use Rattle.calls.specs.Calls.{session, Resumed, resumed, configOf, posOf, openW
 use Rattle.calls.specs.declared.Reopened.the-variants.{Opened}
 use Rattle.reopen.proofs.Opens.{open-with}
 use Rattle.reopen.proofs.Reopens.{fromOpening, reopen-is}
-use Rattle.report.specs.Text.{fieldsLine, fieldsOf, each, okText, rowText, layerText, mapText, answerText, reportText}
+use Rattle.print_lines.specs.Text.{fieldsLine, fieldsOf, each, okText, rowText, layerText, mapText}
+use Rattle.report.specs.Text.{answerText, reportText}
 use Rattle.report.specs.Report.{lentBy, lentCells, reportDoes}
 use Rattle.report.specs.Laws.{printed, report-prints}
 use Rattle.listing.specs.Sky.{listingConfig, listingPlace, eightWaters, listing-ground}

@@ -1,3 +1,4 @@
 pub mod Same
-pub mod Fill
+pub mod Runs
 pub mod Octaves
+pub mod Going

@@ -1,13 +1,20 @@
--- The loop over octaves along a row, for any noise: what `fbm_row` and `fbm_places` cite. Assumes nothing.
+-- The loop over octaves along a row, for any noise: what the sums over octaves cite. Assumes nothing.
 use mathlib.Core.Path.{_≡_, refl, sym, ap, _∙_}
-use Prim.Native.Nat.{ℕ, _+_, _<_}
+use Prim.Native.Nat.{ℕ, _+_, _≤_, _<_}
 use native.Mathlib.Omega.{arith}
 use mathlib.Core.List.{List}
+use lib.ListN.{length}
 use lib.Ieee.{Float, binary32, add, mul}
 use Rattle.words.specs.Num.{nearest}
 use Rattle.noise.specs.Noise.{num, octaves, fbm}
 use Rattle.noise.proofs.Loop.{state, turn, end}
-use Rattle.noise_rows.specs.Row.{Row, Passed, oneMore, zeroAt, shareAt}
+use Rattle.noise_tables.specs.Row.{at, Row}
+use Rattle.noise_rows.specs.Sums.{oneMore, zeroAt, shareAt}
+
+-- after k octaves, with these locals of `fbm2d`
+pub record Passed (n : ℕ) (noise : ℕ → Float → Float) (k : ℕ) (l : List Float) (amp freq max : Float) : Type 0 where
+  pub long : n ≤ length l
+  pub holds : (i : ℕ) → i < n → octaves (noise i) k ≡ record { val = at l i; amp = amp; freq = freq; max = max }
 
 module _ (n : ℕ) (noise : ℕ → Float → Float) where
   pub passed-none : (l : List Float) → Row n zeroAt l → Passed n noise 0 l (num 1) (num 1) (num 0)

@@ -1,30 +1,8 @@
--- What the proofs of the kept square cite. Assumes nothing.
-use mathlib.Core.Path.{_≡_, refl, sym, ap, ap₂, _∙_, subst}
-use mathlib.Core.Bool.{Bool, true, false, _&&_}
-use lib.Dec.{eqb}
-use lib.IntN.{ℤ}
-use mir.Syntax.{w32}
-use mir.Val.{SFits, ofZ, toZ}
-use mir.ValLaws.{toZ-ofZ}
-use borrow.Author.Tests.{eqb-true}
+-- What the proof of a square's hashes cites. Assumes nothing.
+use mathlib.Core.Path.{_≡_, _∙_}
 use Rattle.words.specs.Laws.{ap₃}
-use Rattle.noise_rows.specs.Square.{squareOf, Kept}
-use Rattle.noise_rows.specs.declared.Square.{Square}
 
 pub ap₆ : {A B C D E F G : Type 0} (f : A → B → C → D → E → F → G) {a a′ : A} {b b′ : B} {c c′ : C} {d d′ : D} {e e′ : E} {g g′ : F}
     → a ≡ a′ → b ≡ b′ → c ≡ c′ → d ≡ d′ → e ≡ e′ → g ≡ g′ → f a b c d e g ≡ f a′ b′ c′ d′ e′ g′
 ap₆ {A} {B} {C} f {a′ = a′} {b′ = b′} {c′ = c′} {d = d} {e = e} {g = g} p q r t u v =
     ap₃ (λ (x : A) (y : B) (z : C). f x y z d e g) p q r ∙ ap₃ (f a′ b′ c′) t u v
-
-pub and-both : (a b : Bool) → (a && b) ≡ true → (a ≡ true) × (b ≡ true)
-and-both true b e = (refl, e)
-and-both false true e = (e, refl)
-and-both false false e = (e, e)
-
--- two i32 of the same bits are the same
-pub same : (a b : ℤ) → SFits w32 a → SFits w32 b → eqb (ofZ w32 a) (ofZ w32 b) ≡ true → a ≡ b
-same a b h k e = sym (toZ-ofZ w32 a h) ∙ ap (toZ w32) (eqb-true (ofZ w32 a) (ofZ w32 b) e) ∙ toZ-ofZ w32 b k
-
-pub kept-of : {k : Square} (x y : ℤ) → k ≡ squareOf x y → Kept k
-unfolding squareOf
-kept-of x y e = subst Kept (sym e) (record { is = refl })

@@ -1,2 +1,2 @@
 pub mod Square
-pub mod Row
+pub mod Sums

@@ -1,5 +1,4 @@
--- A square of the lattice with the hashes of its four corners, kept from one column to the next. Assumes nothing.
-use mathlib.Core.Path.{_≡_}
+-- A square of the lattice with the hashes of its four corners. Assumes nothing.
 use lib.IntN.{ℤ}
 use lib.Ieee.{Float}
 use Rattle.noise.specs.Hash.{hash2₃₂}
@@ -12,10 +11,6 @@ squareWith ix iy a b c d = record { ix = ix; iy = iy; a = a; b = b; c = c; d = d
 -- a and b at iy, c and d at the next; a and c at ix, b and d at the next
 unfoldable pub squareOf : ℤ → ℤ → Square
 squareOf ix iy = squareWith ix iy (hash2₃₂ ix iy) (hash2₃₂ (next ix) iy) (hash2₃₂ ix (next iy)) (hash2₃₂ (next ix) (next iy))
-
--- the hashes are those of the square's own place
-pub record Kept (k : Square) : Type 0 where
-  pub is : k ≡ squareOf (k .ix) (k .iy)
 
 -- between the four corners, along x first
 unfoldable pub between₃₂ : Square → Float → Float → Float

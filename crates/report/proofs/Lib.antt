@@ -1,3 +1,1 @@
-pub mod Loop
-pub mod Grown
 pub mod Told

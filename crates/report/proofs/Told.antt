@@ -27,7 +27,7 @@ use Rattle.reopen.proofs.Numbers.{size-natural}
 use Rattle.reopen.proofs.Opens.{open-six, open-with}
 use Rattle.reopen.proofs.Reopens.{fromOpening, reopen-is}
 use Rattle.report.specs.Text.{answerText, reportText}
-use Rattle.report.specs.Appended.{Appended}
+use Rattle.print_lines.specs.Appended.{Appended}
 use Rattle.report.specs.Fits.{Sized}
 use Rattle.report.specs.Report.{lentCells, reported, told, reportDoes}
 

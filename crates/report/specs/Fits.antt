@@ -1,20 +1,11 @@
--- What the writers of the text ask for: space in the buffer, and cells of their size. Assumes nothing.
+-- What the writer of an answer asks for: an opened map's cells are of its size, and the buffer holds the longest text. Assumes nothing.
 use mathlib.Core.List.{List}
-use Prim.Native.Nat.{ℕ, _+_, _≤_}
+use Prim.Native.Nat.{ℕ, _≤_}
 use lib.ListN.{length}
 use Rattle.grid.specs.Cube.{Cube}
 use Rattle.calls.specs.Record.{sizeOf}
 use Rattle.calls.specs.declared.Reopened.{Reopened}
 use Rattle.calls.specs.declared.Reopened.the-variants.{Opened, Refused}
-
--- a text at a place
-abbrev pub Fits : List ℕ → ℕ → List ℕ → Type 0
-Fits o p t = p + length t ≤ length o
-
--- the text of cells of a size
-pub record Lays (size : ℕ) (c : List ℕ) (o : List ℕ) (p : ℕ) (t : List ℕ) : Type 0 where
-  pub cube : Cube size c
-  pub space : p + length t ≤ length o
 
 -- an opened map's cells are of its size
 abbrev pub Sized : Reopened → List ℕ → Type 0

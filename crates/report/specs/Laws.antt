@@ -21,7 +21,8 @@ use Rattle.calls.specs.Record.{cube}
 use Rattle.calls.specs.Calls.{reopenDoes}
 use Rattle.reopen.proofs.Opens.{open-six}
 use Rattle.reopen.proofs.Reopens.{fromOpening, reopen-is}
-use Rattle.report.specs.Text.{noText, answerText, reportText}
+use Rattle.print_lines.specs.Text.{noText}
+use Rattle.report.specs.Text.{answerText, reportText}
 use Rattle.report.specs.Report.{lentBy, lentCells, Reported, reported, told, reportDoes}
 
 -- what the program prints for the held bytes of a journal, over these cells

@@ -20,8 +20,8 @@ use Rattle.calls.specs.declared.Fresh.{Fresh}
 use Rattle.calls.specs.declared.Fresh.the-variants.{Started}
 use Rattle.calls.specs.declared.Reopened.{Reopened}
 use Rattle.calls.specs.declared.Reopened.the-variants.{Opened, Refused}
-use Rattle.open_session.proofs.fresh.Reads as fresh-reads
-use Rattle.open_session.proofs.fresh.Kinds as fresh-kinds
+use Rattle.fresh.proofs.fresh.Reads as fresh-reads
+use Rattle.fresh.proofs.fresh.Kinds as fresh-kinds
 use Rattle.reopen.proofs.reopen.Reads as reopen-reads
 use Rattle.reopen.proofs.reopen.Kinds as reopen-kinds
 use Rattle.recovery.specs.Model.{Call, Model, modelFresh, modelReplies}

@@ -8,7 +8,9 @@ use lib.Ieee.{Float}
 use Rattle.column.specs.Floats.{_+f_, real}
 use Rattle.column.specs.Column.{climateOf, reliefOf}
 use Rattle.column.specs.declared.Surface.{Surface}
-use Rattle.column_rows.specs.Rows.{climateIn, reliefIn}
+use Rattle.noise_tables.specs.Row.{Row}
+use Rattle.column_tables.specs.Coords.{Tabled}
+use Rattle.column_read.specs.Read.{climateIn, reliefIn}
 use Rattle.terrain.specs.World.{biomeNumber, topWith}
 use Rattle.terrain.specs.declared.world.World.{World}
 use Rattle.terrain.specs.declared.world.Frame.{Frame}
@@ -24,6 +26,13 @@ xAt w o i = real (o .ox +ℤ pos i) +f w .«seed_offset»
 
 unfoldable pub zAt : World → Frame → ℕ → Float
 zAt w o i = real (o .oz +ℤ pos i) +f w .«seed_offset»
+
+-- xs holds the columns' x, and the tables tell where they lie
+pub record Laid (w : World) (o : Frame) (xs : List Float) (floors : List ℕ) (eases : List Float) : Type 0 where
+  pub places : Row (o .size) (xAt w o) xs
+  pub told : Tabled (o .size) xs floors eases
+  pub long : 2304 ≤ length floors
+  pub longer : 2304 ≤ length eases
 
 -- rows that hold the noise of the columns at z
 pub record RowNoise (w : World) (o : Frame) (z : ℕ) (temp moisture continent detail micro ridge1 ridge2 steps dune hill : List Float) : Type 0 where

@@ -6,19 +6,20 @@ ghost use lib.ListN.{length, drop};
 ghost use Rattle.column.specs.Floats.{real};
 ghost use Rattle.column.specs.Column.{surfaceOf};
 ghost use Rattle.grid.specs.Cube.{tab, steps};
-ghost use Rattle.noise_rows.specs.Row.{Row};
+ghost use Rattle.noise_tables.specs.Row.{Row};
 ghost use Rattle.terrain.specs.World.{Tall, Near};
 ghost use Rattle.terrain.specs.Base.{columnHeight, columnBiome};
-ghost use Rattle.tops.specs.Tops.{topOf, xAt, RowNoise, noteAt};
+ghost use Rattle.tops.specs.Tops.{topOf, xAt, Laid, RowNoise, noteAt};
 use column::Column;
 use column::Relief;
 use column::surface_of;
-use column_rows::climate_in;
+use column_read::climate_in;
+use column_read::relief_in;
 use column_rows::climate_rows;
 use column_rows::height_rows;
 use column_rows::lowland_rows;
-use column_rows::relief_in;
 use column_rows::ridge_rows;
+use column_tables::note_rows;
 use terrain::world::Frame;
 use terrain::world::Top;
 use terrain::world::World;
@@ -100,17 +101,24 @@ fn put_row(
     }
 }
 
-// Notes the tops of row z. dune and hill are first room for the continent's coordinates.
-fn note_row(w: World, o: Frame, z: usize, heights: &mut [u16], biomes: &mut [u8])
-    requires { ⌜ Tall w × Near o × (z < o .size) × (o .size * o .size ≤ length (now heights)) × (o .size * o .size ≤ length (now biomes)) ⌝ }
+// Notes the tops of row z.
+fn note_row(
+    w: World,
+    o: Frame,
+    z: usize,
+    xs: &[f32],
+    floors: &[u32],
+    eases: &[f32],
+    heights: &mut [u16],
+    biomes: &mut [u8],
+)
+    requires { ⌜ Tall w × Near o × (z < o .size) × Laid w o (now xs) (now floors) (now eases) × (o .size * o .size ≤ length (now heights)) × (o .size * o .size ≤ length (now biomes)) ⌝ }
     ensures { λ _. ⌜ (now (heights .exit) ≡ steps (o .size) (noteAt (columnHeight w o) (z * o .size)) (now (heights .entry))) × (now (biomes .exit) ≡ steps (o .size) (noteAt (columnBiome w o) (z * o .size)) (now (biomes .entry))) ⌝ }
 {
     let n = o.size;
-    let mut xs = [0.0f32; 64];
-    let mut coords = [0.0f32; 64];
     let mut temp = [0.0f32; 64];
     let mut moisture = [0.0f32; 64];
-    let mut continent = [0.0f32; 64];
+    let mut land = [0.0f32; 64];
     let mut detail = [0.0f32; 64];
     let mut micro = [0.0f32; 64];
     let mut ridge1 = [0.0f32; 64];
@@ -118,30 +126,19 @@ fn note_row(w: World, o: Frame, z: usize, heights: &mut [u16], biomes: &mut [u8]
     let mut flat = [0.0f32; 64];
     let mut dune = [0.0f32; 64];
     let mut hill = [0.0f32; 64];
-    note_xs(w, o, &mut xs);
     let wz = along(o.oz, z);
     let v = of_i32(wz) + w.seed_offset;
-    climate_rows(&xs, v, n, &mut coords, &mut temp, &mut moisture);
-    height_rows(
-        &xs,
-        v,
-        n,
-        &mut coords,
-        &mut dune,
-        &mut hill,
-        &mut continent,
-        &mut detail,
-        &mut micro,
-    );
-    ridge_rows(&xs, v, n, &mut coords, &mut ridge1, &mut ridge2);
-    lowland_rows(&xs, v, n, &mut coords, &mut flat, &mut dune, &mut hill);
+    climate_rows(v, n, floors, eases, &mut temp, &mut moisture);
+    height_rows(xs, v, n, floors, eases, &mut land, &mut detail, &mut micro);
+    ridge_rows(v, n, floors, eases, &mut ridge1, &mut ridge2);
+    lowland_rows(v, n, floors, eases, &mut flat, &mut dune, &mut hill);
     put_row(
         w,
         o,
         z,
         &temp,
         &moisture,
-        &continent,
+        &land,
         &detail,
         &micro,
         &ridge1,
@@ -154,15 +151,36 @@ fn note_row(w: World, o: Frame, z: usize, heights: &mut [u16], biomes: &mut [u8]
     );
 }
 
-// Fills the two caches, as the Rust fills its own.
-pub fn note_tops(w: World, o: Frame, heights: &mut [u16], biomes: &mut [u8])
-    requires { ⌜ Tall w × Near o × (o .size * o .size ≤ length (now heights)) × (o .size * o .size ≤ length (now biomes)) ⌝ }
+// Notes the tops of every row.
+fn note_each(
+    w: World,
+    o: Frame,
+    xs: &[f32],
+    floors: &[u32],
+    eases: &[f32],
+    heights: &mut [u16],
+    biomes: &mut [u8],
+)
+    requires { ⌜ Tall w × Near o × Laid w o (now xs) (now floors) (now eases) × (o .size * o .size ≤ length (now heights)) × (o .size * o .size ≤ length (now biomes)) ⌝ }
     ensures { λ _. ⌜ (now (heights .exit) ≡ tab (o .size * o .size) (columnHeight w o) ++ drop (o .size * o .size) (now (heights .entry))) × (now (biomes .exit) ≡ tab (o .size * o .size) (columnBiome w o) ++ drop (o .size * o .size) (now (biomes .entry))) ⌝ }
 {
     let size = o.size;
     let mut z = 0;
     while z < size {
-        note_row(w, o, z, heights, biomes);
+        note_row(w, o, z, xs, floors, eases, heights, biomes);
         z += 1;
     }
+}
+
+// Fills the two caches, as the Rust fills its own. The x of the columns, which all rows share, are noted once.
+pub fn note_tops(w: World, o: Frame, heights: &mut [u16], biomes: &mut [u8])
+    requires { ⌜ Tall w × Near o × (o .size * o .size ≤ length (now heights)) × (o .size * o .size ≤ length (now biomes)) ⌝ }
+    ensures { λ _. ⌜ (now (heights .exit) ≡ tab (o .size * o .size) (columnHeight w o) ++ drop (o .size * o .size) (now (heights .entry))) × (now (biomes .exit) ≡ tab (o .size * o .size) (columnBiome w o) ++ drop (o .size * o .size) (now (biomes .entry))) ⌝ }
+{
+    let mut xs = [0.0f32; 64];
+    let mut floors = [0u32; 2304];
+    let mut eases = [0.0f32; 2304];
+    note_xs(w, o, &mut xs);
+    note_rows(&xs, o.size, &mut floors, &mut eases);
+    note_each(w, o, &xs, &floors, &eases, heights, biomes);
 }

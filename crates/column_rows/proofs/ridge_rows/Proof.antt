@@ -1,15 +1,17 @@
 -- `column_rows::ridge_rows` meets its contract. Assumes nothing.
-use lib.Ieee.{ofBits, neg}
+use mathlib.Core.List.{List}
+use lib.Ieee.{Float, ofBits, neg}
 use Rattle.words.specs.Num.{nearest}
 use borrow.Author.Needs.{needs}
+use Rattle.column_rows.specs.Fields.{ridge1-row, ridge2-row}
 use Rattle.column_rows.proofs.ridge_rows.Statement.{statement}
 use Rattle.column_rows.proofs.ridge_rows.Tie as tie
 
-offset-row-requires : tie.Need-offset-row-requires
-offset-row-requires c κs = search needs
+fbm-row-requires : tie.Need-fbm-row-requires
+fbm-row-requires c κs = search needs
 
-offset-row-requires-2 : tie.Need-offset-row-requires-2
-offset-row-requires-2 c κs = search needs
+fbm-row-requires-2 : tie.Need-fbm-row-requires-2
+fbm-row-requires-2 c κs = search needs
 
 same-length : tie.Need-same-length
 same-length c = search needs
@@ -17,20 +19,16 @@ same-length c = search needs
 same-length-2 : tie.Need-same-length-2
 same-length-2 c = search needs
 
-same-length-3 : tie.Need-same-length-3
-same-length-3 c = search needs
-
 returns : tie.Need-returns
 unfolding nearest ofBits neg
-returns c = record { first = c .before .before .before .before .before .before .before .before .before .before .before .offset-row .ensures; second = c .before .before .before .before .offset-row2 .ensures }
+returns c =
+    let s = c .before .before .before .before .before .before .before .before .before .before .before .before in
+    record {
+      is = λ (xs : List Float) d. record {
+        first = ridge1-row (s .args .n) xs (s .args .floors .now) (s .args .eases .now) d (s .args .z) _ (c .before .before .before .before .before .before .fbm-row .ensures);
+        second = ridge2-row (s .args .n) xs (s .args .floors .now) (s .args .eases .now) d (s .args .z) _ (c .before .before .fbm-row2 .ensures);
+      };
+    }
 
 pub ridge-rows-spec : {M : Type 1} → statement M
-ridge-rows-spec =
-    tie.close
-    (tie.spec
-    offset-row-requires
-    offset-row-requires-2
-    same-length
-    same-length-2
-    same-length-3
-    returns)
+ridge-rows-spec = tie.close (tie.spec fbm-row-requires fbm-row-requires-2 same-length same-length-2 returns)

@@ -5,9 +5,9 @@ use native.Mathlib.Omega.{arith}
 use lib.Ieee.{Float, ofBits}
 use Rattle.words.specs.Num.{nearest}
 use Rattle.column.specs.Floats.{_+f_, _*f_, nat}
-use Rattle.noise_rows.specs.Row.{at}
+use Rattle.noise_tables.specs.Row.{at}
 use Rattle.column_rows.specs.Rows.{warpedX}
-use Rattle.noise_rows.proofs.Fill.{Filling, start, step, end}
+use Rattle.noise_tables.proofs.Fill.{Filling, start, step, end}
 use Rattle.column_rows.proofs.warp_xs.Statement.{statement}
 use Rattle.column_rows.proofs.warp_xs.Tie as tie
 

@@ -6,7 +6,7 @@ use lib.Ieee.{Float, ofBits}
 use Rattle.words.specs.Num.{nearest}
 use Rattle.column.specs.Floats.{_+f_, _*f_, nat}
 use Rattle.column_rows.specs.Rows.{warpedZ}
-use Rattle.noise_rows.proofs.Fill.{Filling, start, step, end}
+use Rattle.noise_tables.proofs.Fill.{Filling, start, step, end}
 use Rattle.column_rows.proofs.warp_zs.Statement.{statement}
 use Rattle.column_rows.proofs.warp_zs.Tie as tie
 

@@ -1,5 +1,5 @@
 -- `host::pl_generate` meets its contract. Assumes nothing.
-use Rattle.host.specs.Answers.{generate-in-c}
+use Rattle.answers.specs.Answers.{generate-in-c}
 use borrow.Author.Needs.{needs}
 use Rattle.host.proofs.pl_generate.Statement.{statement}
 use Rattle.host.proofs.pl_generate.Tie as tie

@@ -6,11 +6,9 @@ use borrow.Author.Needs.{needs}
 use Rattle.host.proofs.pl_hash2.Statement.{statement}
 use Rattle.host.proofs.pl_hash2.Tie as tie
 
--- src/lib.rt:10:5
 hash2-requires : tie.Need-hash2-requires
 hash2-requires c κs = search needs
 
--- src/lib.rt:6:1
 returns : tie.Need-returns
 returns c = let s = c .before in c .hash2 .ensures ∙ ap₂ hash2₃₂ (toZ-ofZ w32 (s .args .x) (s .fits .x)) (toZ-ofZ w32 (s .args .y) (s .fits .y))
 

@@ -8,11 +8,9 @@ use borrow.Author.Needs.{needs}
 use Rattle.host.proofs.pl_hash3.Statement.{statement}
 use Rattle.host.proofs.pl_hash3.Tie as tie
 
--- src/lib.rt:17:5
 hash3-requires : tie.Need-hash3-requires
 hash3-requires c κs = search needs
 
--- src/lib.rt:13:1
 returns : tie.Need-returns
 returns c =
     let s = c .before in

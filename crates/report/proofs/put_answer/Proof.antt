@@ -1,8 +1,8 @@
 -- `report::put_answer` meets its contract. One line for a refusal; for an opened map its line and then its rows, which fit. Assumes nothing.
-use Rattle.report.specs.Appended.{same-length as kept}
+use Rattle.print_lines.specs.Appended.{same-length as kept}
 use Rattle.report.specs.Fits.{Sized}
-use Rattle.report.specs.Rows.{map-length, size-most}
-use Rattle.report.specs.Appended.{as-text, then}
+use Rattle.print_rows.specs.Rows.{map-length, size-most}
+use Rattle.print_lines.specs.Appended.{as-text, then}
 use Rattle.report.specs.Text.{answerText}
 use Rattle.calls.specs.declared.Reopened.{Reopened}
 use Rattle.calls.specs.Record.{sizeOf}

@@ -1,5 +1,5 @@
 -- `report::report` meets its contract. Too few cells or bytes, or what reopening leaves, as text. Assumes nothing.
-use Rattle.report.specs.Appended.{as-text}
+use Rattle.print_lines.specs.Appended.{as-text}
 use Rattle.report.specs.Text.{answerText}
 use mathlib.Core.List.{_++_}
 use Rattle.report.proofs.Told.{few-cells, few-bytes, all-told, sized}

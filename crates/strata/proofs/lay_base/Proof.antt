@@ -1,33 +1,70 @@
 -- `strata::lay_base` meets its contract. Assumes nothing.
 use borrow.Author.Needs.{needs}
-use mathlib.Core.Path.{subst}
-use lib.IntN.{ℤ}
-use Rattle.terrain.proofs.Signed.{back}
-use Rattle.hollow.specs.Levels as levels
+use mathlib.Core.Path.{_≡_, refl, sym, _∙_, subst}
+use Prim.Native.Nat.{ℕ, _≤_}
+use lib.ListN.{length}
 use Rattle.strata.proofs.lay_base.Statement.{statement}
 use Rattle.strata.proofs.lay_base.Tie as tie
 
-slice-aggregate-note-levels : tie.Need-slice-aggregate-note-levels
-slice-aggregate-note-levels c = search needs
+no-sums-requires : tie.Need-no-sums-requires
+no-sums-requires c κs = search needs
 
-slice-aggregate-note-levels-2 : tie.Need-slice-aggregate-note-levels-2
-slice-aggregate-note-levels-2 c = search needs
+no-sums-requires-2 : tie.Need-no-sums-requires-2
+no-sums-requires-2 c κs = search needs
 
-note-levels-requires : tie.Need-note-levels-requires
-note-levels-requires c κs = search needs
+no-sums-requires-3 : tie.Need-no-sums-requires-3
+no-sums-requires-3 c κs = search needs
 
-slice-aggregate-lay-columns : tie.Need-slice-aggregate-lay-columns
-slice-aggregate-lay-columns c = search needs
+no-flags-requires : tie.Need-no-flags-requires
+no-flags-requires c κs = search needs
 
-slice-aggregate-lay-columns-2 : tie.Need-slice-aggregate-lay-columns-2
-slice-aggregate-lay-columns-2 c = search needs
+no-flags-requires-2 : tie.Need-no-flags-requires-2
+no-flags-requires-2 c κs = search needs
 
-lay-columns-requires : tie.Need-lay-columns-requires
-lay-columns-requires c κs =
-    let s = c .before .before .before .before .before .before .before .before .before .before .before .before in
+slice-aggregate-note-coords : tie.Need-slice-aggregate-note-coords
+slice-aggregate-note-coords c = search needs
+
+slice-aggregate-note-coords-2 : tie.Need-slice-aggregate-note-coords-2
+slice-aggregate-note-coords-2 c = search needs
+
+slice-aggregate-note-coords-3 : tie.Need-slice-aggregate-note-coords-3
+slice-aggregate-note-coords-3 c = search needs
+
+note-coords-requires : tie.Need-note-coords-requires
+note-coords-requires c κs = search needs
+
+slice-aggregate-lay-rows : tie.Need-slice-aggregate-lay-rows
+slice-aggregate-lay-rows c = search needs
+
+slice-aggregate-lay-rows-2 : tie.Need-slice-aggregate-lay-rows-2
+slice-aggregate-lay-rows-2 c = search needs
+
+slice-aggregate-lay-rows-3 : tie.Need-slice-aggregate-lay-rows-3
+slice-aggregate-lay-rows-3 c = search needs
+
+slice-aggregate-lay-rows-4 : tie.Need-slice-aggregate-lay-rows-4
+slice-aggregate-lay-rows-4 c = search needs
+
+slice-aggregate-lay-rows-5 : tie.Need-slice-aggregate-lay-rows-5
+slice-aggregate-lay-rows-5 c = search needs
+
+slice-aggregate-lay-rows-6 : tie.Need-slice-aggregate-lay-rows-6
+slice-aggregate-lay-rows-6 c = search needs
+
+slice-aggregate-lay-rows-7 : tie.Need-slice-aggregate-lay-rows-7
+slice-aggregate-lay-rows-7 c = search needs
+
+slice-aggregate-lay-rows-8 : tie.Need-slice-aggregate-lay-rows-8
+slice-aggregate-lay-rows-8 c = search needs
+
+lay-rows-requires : tie.Need-lay-rows-requires
+lay-rows-requires c κs =
+    let s = c .before .before .before .before .before .before .before .before .before .before .before .before .before .before .before .before .before .before .before .before .before .before .before .before in
     let o = s .args .o in
-    let n = c .before .before .before .before .before .note-levels in
-    (s .pre .0, s .pre .1, s .pre .2, subst (λ (u : ℤ). levels.Noted u (n .last .1 .0) (n .last .1 .1 .0)) (back (o .oy) (s .pre .1 .y)) (n .ensures), s .pre .3)
+    let n = c .before .before .before .before .before .before .before .before .before .before .before .before .note-coords in
+    let m : o .size ≤ 64 = s .pre .1 .most in
+    let a : 64 ≡ length (n .last .1 .0) = sym (n .kept .1 .0 ∙ c .before .before .before .before .before .before .before .before .before .before .before .before .before .before .before .before .before .before .before .before .no-sums .ensures) in
+    (s .pre .0, s .pre .1, s .pre .2, n .ensures, record { wholes = n .kept .1 .1 .0; parts = n .kept .1 .1 .1 .0; rows = refl; first = subst (λ (u : ℕ). o .size ≤ u) a m; second = subst (λ (u : ℕ). o .size ≤ u) (sym (c .before .before .before .before .before .before .before .before .before .before .before .before .before .before .before .before .before .before .before .no-sums2 .ensures)) m; third = subst (λ (u : ℕ). o .size ≤ u) (sym (c .before .before .before .before .before .before .before .before .before .before .before .before .before .before .before .before .before .before .no-sums3 .ensures)) m; marks = subst (λ (u : ℕ). o .size ≤ u) (sym (c .before .before .before .before .before .before .before .before .before .before .before .before .before .before .before .before .no-flags2 .ensures)) m }, subst (λ (u : ℕ). o .size ≤ u) (sym (c .before .before .before .before .before .before .before .before .before .before .before .before .before .before .before .before .before .no-flags .ensures)) m, s .pre .3)
 
 same-length : tie.Need-same-length
 same-length c = search needs
@@ -39,11 +76,23 @@ pub lay-base-spec : {M : Type 1} → statement M
 lay-base-spec =
     tie.close
     (tie.spec
-    slice-aggregate-note-levels
-    slice-aggregate-note-levels-2
-    note-levels-requires
-    slice-aggregate-lay-columns
-    slice-aggregate-lay-columns-2
-    lay-columns-requires
+    no-sums-requires
+    no-sums-requires-2
+    no-sums-requires-3
+    no-flags-requires
+    no-flags-requires-2
+    slice-aggregate-note-coords
+    slice-aggregate-note-coords-2
+    slice-aggregate-note-coords-3
+    note-coords-requires
+    slice-aggregate-lay-rows
+    slice-aggregate-lay-rows-2
+    slice-aggregate-lay-rows-3
+    slice-aggregate-lay-rows-4
+    slice-aggregate-lay-rows-5
+    slice-aggregate-lay-rows-6
+    slice-aggregate-lay-rows-7
+    slice-aggregate-lay-rows-8
+    lay-rows-requires
     same-length
     returns)

@@ -9,19 +9,13 @@ use mir.Syntax.{w32}
 use Rattle.words.specs.Laws.{read}
 use Rattle.column.specs.Floats.{_+f_, real}
 use Rattle.column.specs.Column.{climateOf, reliefOf}
-use Rattle.column_rows.specs.Laws.{climate-in, relief-in}
+use Rattle.column_read.specs.Laws.{climate-in, relief-in}
 use Rattle.terrain.specs.World.{Near}
 use Rattle.terrain.proofs.Signed.{back}
-use Rattle.tops.specs.Tops.{zAt}
+use Rattle.tops.specs.Tops.{zAt, Laid}
 use borrow.Author.Needs.{needs}
 use Rattle.tops.proofs.note_row.Statement.{statement}
 use Rattle.tops.proofs.note_row.Tie as tie
-
-slice-aggregate-note-xs : tie.Need-slice-aggregate-note-xs
-slice-aggregate-note-xs c = search needs
-
-note-xs-requires : tie.Need-note-xs-requires
-note-xs-requires c κs = search needs
 
 along-requires : tie.Need-along-requires
 along-requires c κs = let s = c .before .before .before .before .before .before in let p : Near (s .args .o) = s .pre .1 in let m = p .most in let h : s .args .z < s .args .o .size = s .pre .2 in (subst (λ (u : ℤ). mag u ≤ 1000000) (sym (back (s .args .o .oz) (p .z))) (p .z), omega arith)
@@ -35,12 +29,6 @@ slice-aggregate-climate-rows c = search needs
 slice-aggregate-climate-rows-2 : tie.Need-slice-aggregate-climate-rows-2
 slice-aggregate-climate-rows-2 c = search needs
 
-slice-aggregate-climate-rows-3 : tie.Need-slice-aggregate-climate-rows-3
-slice-aggregate-climate-rows-3 c = search needs
-
-slice-aggregate-climate-rows-4 : tie.Need-slice-aggregate-climate-rows-4
-slice-aggregate-climate-rows-4 c = search needs
-
 climate-rows-requires : tie.Need-climate-rows-requires
 climate-rows-requires c κs = search needs
 
@@ -53,18 +41,6 @@ slice-aggregate-height-rows-2 c = search needs
 slice-aggregate-height-rows-3 : tie.Need-slice-aggregate-height-rows-3
 slice-aggregate-height-rows-3 c = search needs
 
-slice-aggregate-height-rows-4 : tie.Need-slice-aggregate-height-rows-4
-slice-aggregate-height-rows-4 c = search needs
-
-slice-aggregate-height-rows-5 : tie.Need-slice-aggregate-height-rows-5
-slice-aggregate-height-rows-5 c = search needs
-
-slice-aggregate-height-rows-6 : tie.Need-slice-aggregate-height-rows-6
-slice-aggregate-height-rows-6 c = search needs
-
-slice-aggregate-height-rows-7 : tie.Need-slice-aggregate-height-rows-7
-slice-aggregate-height-rows-7 c = search needs
-
 height-rows-requires : tie.Need-height-rows-requires
 height-rows-requires c κs = search needs
 
@@ -74,25 +50,11 @@ slice-aggregate-ridge-rows c = search needs
 slice-aggregate-ridge-rows-2 : tie.Need-slice-aggregate-ridge-rows-2
 slice-aggregate-ridge-rows-2 c = search needs
 
-slice-aggregate-ridge-rows-3 : tie.Need-slice-aggregate-ridge-rows-3
-slice-aggregate-ridge-rows-3 c = search needs
-
-slice-aggregate-ridge-rows-4 : tie.Need-slice-aggregate-ridge-rows-4
-slice-aggregate-ridge-rows-4 c = search needs
-
 ridge-rows-requires : tie.Need-ridge-rows-requires
-ridge-rows-requires c κs =
-    let s = c .before .before .before .before .before .before .before .before .before .before .before .before .before .before .before .before .before .before .before .before .before .before .before .before .before .before .before .before .before .before .before .before .before .before .before in
-    let o = s .args .o in
-    let p : Near o = s .pre .1 in
-    let ps : 0 < o .size = p .some in
-    let pm : o .size ≤ 64 = p .most in
-    let xr = c .before .before .before .before .before .before .before .before .before .before .before .before .before .before .before .before .before .before .before .before .before .before .before .before .before .before .before .before .before .before .before .note-xs .ensures in
-    let k = c .before .before .before .before .before .before .before .before .before .before .height-rows .kept .1 .1 .1 .0 ∙ c .before .before .before .before .before .before .before .before .before .before .before .before .before .before .before .before .before .before .before .before .before .climate-rows .kept .1 .1 .1 .0 in
-    (ps, pm, xr .long, subst (λ (u : ℕ). o .size ≤ u) (sym k) pm, pm, pm)
+ridge-rows-requires c κs = let s = c .before .before .before .before .before .before .before .before .before .before .before .before .before .before .before .before .before .before .before .before .before .before .before in let o = s .args .o in let p : Near o = s .pre .1 in let pm : o .size ≤ 64 = p .most in let t : Laid (s .args .w) o (s .args .xs .now) (s .args .floors .now) (s .args .eases .now) = s .pre .3 in (pm, t .long, t .longer, pm, pm)
 
 slice-aggregate-lowland-rows : tie.Need-slice-aggregate-lowland-rows
-slice-aggregate-lowland-rows c = sym (c .before .before .before .before .before .before .before .before .before .before .before .before .before .before .before .before .before .before .before .before .before .before .before .before .before .before .before .before .before .before .before .before .before .before .before .before .note-xs .kept .1 .1 .0)
+slice-aggregate-lowland-rows c = search needs
 
 slice-aggregate-lowland-rows-2 : tie.Need-slice-aggregate-lowland-rows-2
 slice-aggregate-lowland-rows-2 c = search needs
@@ -100,30 +62,14 @@ slice-aggregate-lowland-rows-2 c = search needs
 slice-aggregate-lowland-rows-3 : tie.Need-slice-aggregate-lowland-rows-3
 slice-aggregate-lowland-rows-3 c = search needs
 
-slice-aggregate-lowland-rows-4 : tie.Need-slice-aggregate-lowland-rows-4
-slice-aggregate-lowland-rows-4 c = search needs
-
-slice-aggregate-lowland-rows-5 : tie.Need-slice-aggregate-lowland-rows-5
-slice-aggregate-lowland-rows-5 c = search needs
-
 lowland-rows-requires : tie.Need-lowland-rows-requires
-lowland-rows-requires c κs =
-    let s = c .before .before .before .before .before .before .before .before .before .before .before .before .before .before .before .before .before .before .before .before .before .before .before .before .before .before .before .before .before .before .before .before .before .before .before .before .before .before .before .before .before .before .before .before in
-    let o = s .args .o in
-    let p : Near o = s .pre .1 in
-    let ps : 0 < o .size = p .some in
-    let pm : o .size ≤ 64 = p .most in
-    let xr = c .before .before .before .before .before .before .before .before .before .before .before .before .before .before .before .before .before .before .before .before .before .before .before .before .before .before .before .before .before .before .before .before .before .before .before .before .before .before .before .before .note-xs .ensures in
-    let k = c .before .before .before .before .before .before .before .before .ridge-rows .kept .1 .1 .1 .0 ∙ c .before .before .before .before .before .before .before .before .before .before .before .before .before .before .before .before .before .before .before .height-rows .kept .1 .1 .1 .0 ∙ c .before .before .before .before .before .before .before .before .before .before .before .before .before .before .before .before .before .before .before .before .before .before .before .before .before .before .before .before .before .before .climate-rows .kept .1 .1 .1 .0 in
-    let d = c .before .before .before .before .before .before .before .before .before .before .before .before .before .before .before .before .before .before .before .height-rows .kept .1 .1 .1 .1 .0 in
-    let h = c .before .before .before .before .before .before .before .before .before .before .before .before .before .before .before .before .before .before .before .height-rows .kept .1 .1 .1 .1 .1 .0 in
-    (ps, pm, xr .long, subst (λ (u : ℕ). o .size ≤ u) (sym k) pm, pm, subst (λ (u : ℕ). o .size ≤ u) (sym d) pm, subst (λ (u : ℕ). o .size ≤ u) (sym h) pm)
+lowland-rows-requires c κs = let s = c .before .before .before .before .before .before .before .before .before .before .before .before .before .before .before .before .before .before .before .before .before .before .before .before .before .before .before .before .before in let o = s .args .o in let p : Near o = s .pre .1 in let pm : o .size ≤ 64 = p .most in let t : Laid (s .args .w) o (s .args .xs .now) (s .args .floors .now) (s .args .eases .now) = s .pre .3 in (pm, t .long, t .longer, pm, pm, pm)
 
 slice-aggregate-put-row : tie.Need-slice-aggregate-put-row
-slice-aggregate-put-row c = sym (c .before .before .before .before .before .before .before .before .before .before .before .before .before .before .before .before .before .before .before .before .before .before .before .before .before .before .before .before .before .before .before .before .before .before .before .before .climate-rows .kept .1 .1 .1 .1 .0)
+slice-aggregate-put-row c = search needs
 
 slice-aggregate-put-row-2 : tie.Need-slice-aggregate-put-row-2
-slice-aggregate-put-row-2 c = sym (c .before .before .before .before .before .before .before .before .before .before .before .before .before .before .before .before .before .before .before .before .before .before .before .before .before .before .before .before .before .before .before .before .before .before .before .before .before .climate-rows .kept .1 .1 .1 .1 .1 .0)
+slice-aggregate-put-row-2 c = search needs
 
 slice-aggregate-put-row-3 : tie.Need-slice-aggregate-put-row-3
 slice-aggregate-put-row-3 c = search needs
@@ -152,19 +98,18 @@ slice-aggregate-put-row-10 c = search needs
 put-row-requires : tie.Need-put-row-requires
 unfolding zAt
 put-row-requires c κs =
-    let s = c .before .before .before .before .before .before .before .before .before .before .before .before .before .before .before .before .before .before .before .before .before .before .before .before .before .before .before .before .before .before .before .before .before .before .before .before .before .before .before .before .before .before .before .before .before .before .before .before .before .before .before .before .before .before .before .before .before .before .before .before .before in
+    let s = c .before .before .before .before .before .before .before .before .before .before .before .before .before .before .before .before .before .before .before .before .before .before .before .before .before .before .before .before .before .before .before .before .before .before .before .before .before .before .before .before .before .before .before .before .before in
     let o = s .args .o in
-    let p : Near o = s .pre .1 in
-    let ps : 0 < o .size = p .some in
-    let pm : o .size ≤ 64 = p .most in
-    let xr = c .before .before .before .before .before .before .before .before .before .before .before .before .before .before .before .before .before .before .before .before .before .before .before .before .before .before .before .before .before .before .before .before .before .before .before .before .before .before .before .before .before .before .before .before .before .before .before .before .before .before .before .before .before .before .before .before .before .note-xs .ensures in
     let w = s .args .w in
-    let wz = read w32 (c .before .before .before .before .before .before .before .before .before .before .before .before .before .before .before .before .before .before .before .before .before .before .before .before .before .before .before .before .before .before .before .before .before .before .before .before .before .before .before .before .before .before .before .before .before .before .before .before .before .before .before .before .before .before .along .ok) (c .before .before .before .before .before .before .before .before .before .before .before .before .before .before .before .before .before .before .before .before .before .before .before .before .before .before .before .before .before .before .before .before .before .before .before .before .before .before .before .before .before .before .before .before .before .before .before .before .before .before .before .before .before .before .along .ensures ∙ ap (λ (u : ℤ). u +ℤ pos (s .args .z)) (back (o .oz) (p .z))) in
-    let vz = ap (λ (u : Float). u +f w .«seed_offset») (c .before .before .before .before .before .before .before .before .before .before .before .before .before .before .before .before .before .before .before .before .before .before .before .before .before .before .before .before .before .before .before .before .before .before .before .before .before .before .before .before .before .before .before .before .before .before .before .before .before .before .before .before .before .of-i32 .ensures ∙ ap real wz) in
-    let cr = c .before .before .before .before .before .before .before .before .before .before .before .before .before .before .before .before .before .before .before .before .before .before .before .before .before .before .before .before .before .before .before .before .before .before .before .before .before .before .before .before .before .before .before .before .before .before .before .climate-rows .ensures in
-    let hr = c .before .before .before .before .before .before .before .before .before .before .before .before .before .before .before .before .before .before .before .before .before .before .before .before .before .before .before .before .before .before .before .before .before .before .before .before .height-rows .ensures in
-    let rr = c .before .before .before .before .before .before .before .before .before .before .before .before .before .before .before .before .before .before .before .before .before .before .before .before .before .ridge-rows .ensures in
-    let lr = c .before .before .before .before .before .before .before .before .before .before .before .before .before .before .before .before .lowland-rows .ensures in (
+    let p : Near o = s .pre .1 in
+    let t : Laid w o (s .args .xs .now) (s .args .floors .now) (s .args .eases .now) = s .pre .3 in
+    let xr = t .places in
+    let wz = read w32 (c .before .before .before .before .before .before .before .before .before .before .before .before .before .before .before .before .before .before .before .before .before .before .before .before .before .before .before .before .before .before .before .before .before .before .before .before .before .before .along .ok) (c .before .before .before .before .before .before .before .before .before .before .before .before .before .before .before .before .before .before .before .before .before .before .before .before .before .before .before .before .before .before .before .before .before .before .before .before .before .before .along .ensures ∙ ap (λ (u : ℤ). u +ℤ pos (s .args .z)) (back (o .oz) (p .z))) in
+    let vz = ap (λ (u : Float). u +f w .«seed_offset») (c .before .before .before .before .before .before .before .before .before .before .before .before .before .before .before .before .before .before .before .before .before .before .before .before .before .before .before .before .before .before .before .before .before .before .before .before .before .of-i32 .ensures ∙ ap real wz) in
+    let cr = c .before .before .before .before .before .before .before .before .before .before .before .before .before .before .before .before .before .before .before .before .before .before .before .before .before .before .before .before .before .before .before .before .before .climate-rows .ensures .is (s .args .xs .now) (t .told) in
+    let hr = c .before .before .before .before .before .before .before .before .before .before .before .before .before .before .before .before .before .before .before .before .before .before .before .before .before .before .before .height-rows .ensures in
+    let rr = c .before .before .before .before .before .before .before .before .before .before .before .before .before .before .before .before .before .before .before .before .before .ridge-rows .ensures .is (s .args .xs .now) (t .told) in
+    let lr = c .before .before .before .before .before .before .before .before .before .before .before .before .before .before .before .lowland-rows .ensures .is (s .args .xs .now) (t .told) in (
       s .pre .0,
       p,
       s .pre .2,
@@ -182,8 +127,8 @@ put-row-requires c κs =
         long8 = lr .dunes .long;
         long9 = lr .hills .long;
       },
-      s .pre .3,
       s .pre .4,
+      s .pre .5,
     )
 
 same-length : tie.Need-same-length
@@ -199,33 +144,21 @@ pub note-row-spec : {M : Type 1} → statement M
 note-row-spec =
     tie.close
     (tie.spec
-    slice-aggregate-note-xs
-    note-xs-requires
     along-requires
     of-i32-requires
     slice-aggregate-climate-rows
     slice-aggregate-climate-rows-2
-    slice-aggregate-climate-rows-3
-    slice-aggregate-climate-rows-4
     climate-rows-requires
     slice-aggregate-height-rows
     slice-aggregate-height-rows-2
     slice-aggregate-height-rows-3
-    slice-aggregate-height-rows-4
-    slice-aggregate-height-rows-5
-    slice-aggregate-height-rows-6
-    slice-aggregate-height-rows-7
     height-rows-requires
     slice-aggregate-ridge-rows
     slice-aggregate-ridge-rows-2
-    slice-aggregate-ridge-rows-3
-    slice-aggregate-ridge-rows-4
     ridge-rows-requires
     slice-aggregate-lowland-rows
     slice-aggregate-lowland-rows-2
     slice-aggregate-lowland-rows-3
-    slice-aggregate-lowland-rows-4
-    slice-aggregate-lowland-rows-5
     lowland-rows-requires
     slice-aggregate-put-row
     slice-aggregate-put-row-2

@@ -1,132 +1,78 @@
 -- `tops::note_tops` meets its contract. Assumes nothing.
-use mathlib.Core.Path.{_≡_, ap, _∙_}
-use mathlib.Core.List.{_++_}
-use Prim.Native.Nat.{ℕ, _+_, _-_, _*_, _≤_, _<_}
+use mathlib.Core.Path.{sym, subst}
+use Prim.Native.Nat.{ℕ, _≤_}
 use native.Mathlib.Omega.{arith}
-use native.Mathlib.Nat.{le-antisymm}
-use lib.ListN.{length, drop}
-use Rattle.grid.specs.Cube.{tab}
-use Rattle.grid.specs.Grid.{square-most, fill-length}
-use Rattle.terrain.specs.Base.{columnHeight, columnBiome}
-use Rattle.tops.specs.Laws.{none, more, row-fits}
+use borrow.Author.Needs.{needs}
 use Rattle.tops.proofs.note_tops.Statement.{statement}
 use Rattle.tops.proofs.note_tops.Tie as tie
 
-abbrev Inv-loop : tie.InvT-loop
-Inv-loop w o heights₀ biomes₀ size z₀ heights biomes z = (z ≤ o .size) × (heights ≡ tab (z * o .size) (columnHeight w o) ++ drop (z * o .size) heights₀) × (biomes ≡ tab (z * o .size) (columnBiome w o) ++ drop (z * o .size) biomes₀)
+slice-aggregate-note-xs : tie.Need-slice-aggregate-note-xs
+slice-aggregate-note-xs c = search needs
 
-abbrev μ-loop : tie.MeasureT-loop
-μ-loop w o heights₀ biomes₀ size z₀ heights biomes z = o .size - z
+note-xs-requires : tie.Need-note-xs-requires
+note-xs-requires c κs = search needs
 
-loop-holds : tie.Need-loop-holds Inv-loop μ-loop
-loop-holds c = let s = c .before .before in let o = s .args .o in (omega arith, none (columnHeight (s .args .w) o) (s .args .heights .now) (o .size), none (columnBiome (s .args .w) o) (s .args .biomes .now) (o .size))
+slice-aggregate-note-rows : tie.Need-slice-aggregate-note-rows
+slice-aggregate-note-rows c = search needs
 
-note-row-requires : tie.Need-note-row-requires Inv-loop μ-loop
-note-row-requires c κs =
-    let s = c .before .before .before .before .before .before in
-    let l = c .before .before .before .loop in
-    let o = s .args .o in
-    let t : l .z < o .size = c .before .before .loop-test .taken in
-    let sq = square-most (o .size) (s .pre .1 .most) in
-    let pm : o .size ≤ 64 = s .pre .1 .most in
-    let d : l .z * o .size + o .size ≤ o .size * o .size = row-fits (l .z) (o .size) t in
-    let gh : o .size * o .size ≤ length (s .args .heights .now) = s .pre .2 in
-    let gb : o .size * o .size ≤ length (s .args .biomes .now) = s .pre .3 in
-    let lh : length (l .heights) ≡ length (s .args .heights .now) = ap length (l .inv .1) ∙ fill-length (s .args .heights .now) (l .z * o .size) (columnHeight (s .args .w) o) (omega arith) in
-    let lb : length (l .biomes) ≡ length (s .args .biomes .now) = ap length (l .inv .2) ∙ fill-length (s .args .biomes .now) (l .z * o .size) (columnBiome (s .args .w) o) (omega arith) in
-    (s .pre .0, s .pre .1, t, omega arith, omega arith)
+slice-aggregate-note-rows-2 : tie.Need-slice-aggregate-note-rows-2
+slice-aggregate-note-rows-2 c = search needs
 
-add-z : tie.Need-add-z Inv-loop μ-loop
-add-z c =
-    let s = c .before .before .before .before .before .before .before .before .before .before .before in
-    let l = c .before .before .before .before .before .before .before .before .loop in
-    let o = s .args .o in
-    let t : l .z < o .size = c .before .before .before .before .before .before .before .loop-test .taken in
-    let sq = square-most (o .size) (s .pre .1 .most) in
-    let pm : o .size ≤ 64 = s .pre .1 .most in
-    let d : l .z * o .size + o .size ≤ o .size * o .size = row-fits (l .z) (o .size) t in
-    let gh : o .size * o .size ≤ length (s .args .heights .now) = s .pre .2 in
-    let gb : o .size * o .size ≤ length (s .args .biomes .now) = s .pre .3 in
-    omega arith
+slice-aggregate-note-rows-3 : tie.Need-slice-aggregate-note-rows-3
+slice-aggregate-note-rows-3 c = search needs
 
-loop-less : tie.Need-loop-less Inv-loop μ-loop
-loop-less c =
-    let s = c .before .before .before .before .before .before .before .before .before .before .before in
-    let l = c .before .before .before .before .before .before .before .before .loop in
-    let o = s .args .o in
-    let t : l .z < o .size = c .before .before .before .before .before .before .before .loop-test .taken in
-    let sq = square-most (o .size) (s .pre .1 .most) in
-    let pm : o .size ≤ 64 = s .pre .1 .most in
-    let d : l .z * o .size + o .size ≤ o .size * o .size = row-fits (l .z) (o .size) t in
-    let gh : o .size * o .size ≤ length (s .args .heights .now) = s .pre .2 in
-    let gb : o .size * o .size ≤ length (s .args .biomes .now) = s .pre .3 in
-    omega arith
+note-rows-requires : tie.Need-note-rows-requires
+note-rows-requires c κs = search needs
 
-loop-again : tie.Need-loop-again Inv-loop μ-loop
-loop-again c =
-    let s = c .before .before .before .before .before .before .before .before .before .before .before in
-    let l = c .before .before .before .before .before .before .before .before .loop in
-    let o = s .args .o in
-    let t : l .z < o .size = c .before .before .before .before .before .before .before .loop-test .taken in
-    let sq = square-most (o .size) (s .pre .1 .most) in
-    let pm : o .size ≤ 64 = s .pre .1 .most in
-    let d : l .z * o .size + o .size ≤ o .size * o .size = row-fits (l .z) (o .size) t in
-    let gh : o .size * o .size ≤ length (s .args .heights .now) = s .pre .2 in
-    let gb : o .size * o .size ≤ length (s .args .biomes .now) = s .pre .3 in
-    let e = c .before .before .before .before .note-row .ensures in
-    (omega arith, e .0 ∙ more (columnHeight (s .args .w) o) (s .args .heights .now) (l .heights) (l .z) (o .size) (l .inv .1) (omega arith), e .1 ∙ more (columnBiome (s .args .w) o) (s .args .biomes .now) (l .biomes) (l .z) (o .size) (l .inv .2) (omega arith))
+slice-aggregate-note-each : tie.Need-slice-aggregate-note-each
+slice-aggregate-note-each c = search needs
 
-same-length : tie.Need-same-length Inv-loop μ-loop
-same-length c =
-    let s = c .before .before .before .before in
-    let l = c .before .loop in
-    let o = s .args .o in
-    let i : l .z ≤ o .size = l .inv .0 in
-    let t : o .size ≤ l .z = c .loop-test .left in
-    let e : l .z * o .size ≡ o .size * o .size = ap (λ (k : ℕ). k * o .size) (le-antisymm i t) in
-    let gh : o .size * o .size ≤ length (s .args .heights .now) = s .pre .2 in
-    let gb : o .size * o .size ≤ length (s .args .biomes .now) = s .pre .3 in
-    let lh : length (l .heights) ≡ length (s .args .heights .now) = ap length (l .inv .1) ∙ fill-length (s .args .heights .now) (l .z * o .size) (columnHeight (s .args .w) o) (omega arith) in
-    let lb : length (l .biomes) ≡ length (s .args .biomes .now) = ap length (l .inv .2) ∙ fill-length (s .args .biomes .now) (l .z * o .size) (columnBiome (s .args .w) o) (omega arith) in
-    lh
+slice-aggregate-note-each-2 : tie.Need-slice-aggregate-note-each-2
+slice-aggregate-note-each-2 c = search needs
 
-same-length-2 : tie.Need-same-length-2 Inv-loop μ-loop
-same-length-2 c =
-    let s = c .before .before .before .before in
-    let l = c .before .loop in
-    let o = s .args .o in
-    let i : l .z ≤ o .size = l .inv .0 in
-    let t : o .size ≤ l .z = c .loop-test .left in
-    let e : l .z * o .size ≡ o .size * o .size = ap (λ (k : ℕ). k * o .size) (le-antisymm i t) in
-    let gh : o .size * o .size ≤ length (s .args .heights .now) = s .pre .2 in
-    let gb : o .size * o .size ≤ length (s .args .biomes .now) = s .pre .3 in
-    let lh : length (l .heights) ≡ length (s .args .heights .now) = ap length (l .inv .1) ∙ fill-length (s .args .heights .now) (l .z * o .size) (columnHeight (s .args .w) o) (omega arith) in
-    let lb : length (l .biomes) ≡ length (s .args .biomes .now) = ap length (l .inv .2) ∙ fill-length (s .args .biomes .now) (l .z * o .size) (columnBiome (s .args .w) o) (omega arith) in
-    lb
+slice-aggregate-note-each-3 : tie.Need-slice-aggregate-note-each-3
+slice-aggregate-note-each-3 c = search needs
 
-returns : tie.Need-returns Inv-loop μ-loop
-returns c =
-    let s = c .before .before .before .before in
-    let l = c .before .loop in
-    let o = s .args .o in
-    let i : l .z ≤ o .size = l .inv .0 in
-    let t : o .size ≤ l .z = c .loop-test .left in
-    let e : l .z * o .size ≡ o .size * o .size = ap (λ (k : ℕ). k * o .size) (le-antisymm i t) in
-    let gh : o .size * o .size ≤ length (s .args .heights .now) = s .pre .2 in
-    let gb : o .size * o .size ≤ length (s .args .biomes .now) = s .pre .3 in
-    (l .inv .1 ∙ ap (λ (k : ℕ). tab k (columnHeight (s .args .w) o) ++ drop k (s .args .heights .now)) e, l .inv .2 ∙ ap (λ (k : ℕ). tab k (columnBiome (s .args .w) o) ++ drop k (s .args .biomes .now)) e)
+note-each-requires : tie.Need-note-each-requires
+note-each-requires c κs =
+    let s = c .before .before .before .before .before .before .before .before .before .before .before .before .before .before .before .before in
+    let x = c .before .before .before .before .before .before .before .before .before .before .before .before .note-xs in
+    let r = c .before .before .before .before .before .before .before .note-rows in (
+      s .pre .0,
+      s .pre .1,
+      record {
+        places = x .ensures;
+        told = r .ensures;
+        long = subst (λ (u : ℕ). 2304 ≤ u) (sym (r .kept .1 .1 .0)) (omega arith);
+        longer = subst (λ (u : ℕ). 2304 ≤ u) (sym (r .kept .1 .1 .1 .0)) (omega arith);
+      },
+      s .pre .2,
+      s .pre .3,
+    )
+
+same-length : tie.Need-same-length
+same-length c = search needs
+
+same-length-2 : tie.Need-same-length-2
+same-length-2 c = search needs
+
+returns : tie.Need-returns
+returns c = search needs
 
 pub note-tops-spec : {M : Type 1} → statement M
 note-tops-spec =
     tie.close
     (tie.spec
-    Inv-loop
-    μ-loop
-    loop-holds
-    note-row-requires
-    add-z
-    loop-less
-    loop-again
+    slice-aggregate-note-xs
+    note-xs-requires
+    slice-aggregate-note-rows
+    slice-aggregate-note-rows-2
+    slice-aggregate-note-rows-3
+    note-rows-requires
+    slice-aggregate-note-each
+    slice-aggregate-note-each-2
+    slice-aggregate-note-each-3
+    note-each-requires
     same-length
     same-length-2
     returns)

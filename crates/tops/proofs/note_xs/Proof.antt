@@ -10,7 +10,7 @@ use Rattle.words.specs.Laws.{read}
 use Rattle.column.specs.Floats.{_+f_, real}
 use Rattle.terrain.specs.World.{Near}
 use Rattle.terrain.proofs.Signed.{back}
-use Rattle.noise_rows.proofs.Fill.{Filling, start, step, end}
+use Rattle.noise_tables.proofs.Fill.{Filling, start, step, end}
 use Rattle.tops.specs.Tops.{xAt}
 use borrow.Author.Needs.{needs}
 use Rattle.tops.proofs.note_xs.Statement.{statement}

@@ -48,10 +48,10 @@ use Rattle.calls.proofs.Edited as B
 use Rattle.calls.proofs.Edited.Laws as B′
 use Rattle.calls.proofs.Reply as R
 use Rattle.calls.proofs.Reply.Laws as R′
-use Rattle.open_session.proofs.undo as callee
-use Rattle.open_session.proofs.undo.Symbol as callee-def
-use Rattle.open_session.proofs.undo.Symbol.{name as #callee}
-use Rattle.open_session.proofs.undo.Met as callee-thm
+use Rattle.undo.proofs.undo as callee
+use Rattle.undo.proofs.undo.Symbol as callee-def
+use Rattle.undo.proofs.undo.Symbol.{name as #callee}
+use Rattle.undo.proofs.undo.Met as callee-thm
 use Rattle.host.proofs.by_reference.pl_session_undo.Key.{name as #f}
 use Rattle.host.proofs.by_reference.pl_session_undo as f
 use Rattle.host.proofs.by_reference.pl_session_undo.Statement as stated
@@ -160,4 +160,4 @@ pl-session-undo-spec 𝓤 H 𝓜 𝓖 𝓡 =
     entered 𝓤 H (tripleOf 𝓤 H (𝓖 .A) f.signature (f.spec 𝓤 H (𝓖 .A) (𝓜 .mem) (𝓡 .run)))
     (tables 𝓤 H 𝓜 𝓡 code.env .C) (tables 𝓤 H 𝓜 𝓡 code.env .Λ) #f code.function (code.unfolded 𝓤 H 𝓜 𝓡)
     (pl-session-undo-meets 𝓤 H (𝓖 .A) (givenOf 𝓤 H 𝓜 𝓖) (𝓜 .mem) (𝓡 .run) (tablesOf 𝓤 H 𝓜 (tables 𝓤 H 𝓜 𝓡 code.env))
-    (cited 𝓤 H (Callee 𝓤 H (𝓖 .A) (𝓜 .mem) (𝓡 .run)) 𝓜 𝓡 code.env #callee callee-def.routine code.calls-open-session·undo (callee-thm.met 𝓤 H 𝓜 𝓖 𝓡)))
+    (cited 𝓤 H (Callee 𝓤 H (𝓖 .A) (𝓜 .mem) (𝓡 .run)) 𝓜 𝓡 code.env #callee callee-def.routine code.calls-undo·undo (callee-thm.met 𝓤 H 𝓜 𝓖 𝓡)))

@@ -1,0 +1,103 @@
+-- `hollow::hollow_row` meets its contract. Assumes nothing.
+use borrow.Author.Needs.{needs}
+use mathlib.Core.Path.{sym, ap, _∙_, subst}
+use Prim.Native.Nat.{_≤_}
+use native.Mathlib.Omega.{arith}
+use lib.IntN.{ℤ, pos, _+ℤ_}
+use lib.Signed.{mag}
+use mir.Syntax.{w32}
+use Rattle.words.specs.Laws.{read}
+use Rattle.column.specs.Floats.{real}
+use Rattle.terrain.proofs.Signed.{back}
+use Rattle.hollow.proofs.Columns.{row-ends}
+use Rattle.hollow.proofs.Flags.{flags-told}
+use Rattle.hollow.proofs.hollow_row.Statement.{statement}
+use Rattle.hollow.proofs.hollow_row.Tie as tie
+
+raise-layers-requires : tie.Need-raise-layers-requires
+raise-layers-requires c κs = search needs
+
+sum3-requires : tie.Need-sum3-requires
+sum3-requires c κs = search needs
+
+sum3-requires-2 : tie.Need-sum3-requires-2
+sum3-requires-2 c κs = search needs
+
+sum2-requires : tie.Need-sum2-requires
+sum2-requires c κs =
+    let s = c .before .before .before .before .before .before .before .before .before .before .before .before .before .before .before .before .before .before .before .before .before .before .before .before .before in
+    let r = s .pre .7 in
+    let e = c .before .before .before .before .before .before .before .before .before .before .before .before .before .edges .given ∙ r .rows in
+    (omega arith, r .level, r .depth, r .most, r .parts, e, s .pre .11)
+
+along-requires : tie.Need-along-requires
+along-requires c κs =
+    let s = c .before .before .before .before .before .before .before .before .before .before .before .before .before .before .before .before .before .before .before .before .before .before .before .before .before .before .before .before .before in
+    let l = s .pre .7 .level in
+    (subst (λ (u : ℤ). mag u ≤ 1000000) (sym (back (s .args .f .oy) (s .pre .0 .y))) (s .pre .0 .y), omega arith)
+
+of-i32-requires : tie.Need-of-i32-requires
+of-i32-requires c κs = search needs
+
+mul-judge : tie.Need-mul-judge
+mul-judge c =
+    let s = c .before .before .before .before .before .before .before .before .before .before .before .before .before .before .before .before .before .before .before .before .before .before .before .before .before .before .before .before .before .before .before in
+    let m = row-ends (s .args .z) (s .args .f .size) (s .pre .3) (s .pre .0 .most) in
+    record { fits = (let h = m .0 in omega arith) }
+
+judge-requires : tie.Need-judge-requires
+judge-requires c κs =
+    let s = c .before .before .before .before .before .before .before .before .before .before .before .before .before .before .before .before .before .before .before .before .before .before .before .before .before .before .before .before .before .before .before .before .before .before .before in
+    let m = row-ends (s .args .z) (s .args .f .size) (s .pre .3) (s .pre .0 .most) in
+    let e = m .1 in
+    let h = s .pre .4 in
+    let a = c .before .before .before .before .before .before .before .before .before .before .before .before .before .before .before .before .before .before .before .sum3 .ensures .long in
+    let b = c .before .before .before .before .before .before .before .before .before .before .before .before .before .before .sum32 .ensures .long in
+    let d = c .before .before .before .before .before .before .before .before .before .sum2 .ensures .long in
+    (s .pre .0 .most, m .0, omega arith, s .pre .5 .long, a, b, d, s .pre .12)
+
+same-length : tie.Need-same-length
+same-length c = c .before .before .before .before .before .before .before .before .before .before .before .before .before .before .before .before .before .before .before .before .before .before .before .before .before .before .edges .given
+
+same-length-2 : tie.Need-same-length-2
+same-length-2 c = search needs
+
+same-length-3 : tie.Need-same-length-3
+same-length-3 c = search needs
+
+same-length-4 : tie.Need-same-length-4
+same-length-4 c = search needs
+
+same-length-5 : tie.Need-same-length-5
+same-length-5 c = search needs
+
+returns : tie.Need-returns
+returns c =
+    let s = c .before .before .before .before .before .before .before .before .before .before .before .before .before .before .before .before .before .before .before .before .before .before .before .before .before .before .before .before .before .before .before .before .before .before .before .before .before .before in
+    let v = s .args in
+    let l = c .before .before .before .before .before .before .before .before .before .before .before .before .before .before .before .before .before .before .before .before .before .before .before .before .before .before .before .raise-layers .ensures in
+    let p = c .before .before .before .before .before .before .before .before .before .before .before .before .before .before .before .before .before .before .before .before .before .before .sum3 .ensures in
+    let q = c .before .before .before .before .before .before .before .before .before .before .before .before .before .before .before .before .before .sum32 .ensures in
+    let r = c .before .before .before .before .before .before .before .before .before .before .before .before .sum2 .ensures in
+    let w = c .before .before .before .before .before .before .before .before .along .ensures ∙ ap (λ (u : ℤ). u +ℤ pos (v .y)) (back (v .f .oy) (s .pre .0 .y)) in
+    let h = c .before .before .before .before .before .before .before .of-i32 .ensures ∙ ap real (read w32 (c .before .before .before .before .before .before .before .before .along .ok) w) in
+    (l, flags-told (v .f) (v .y) (v .z) (v .heights .now) (v .cuts .now) (v .floors .now) (v .eases .now) _ _ _ _ _ _ (s .pre .2) (s .pre .3) h (s .pre .5) (s .pre .6) l p q r (c .before .before .judge .ensures))
+
+pub hollow-row-spec : {M : Type 1} → statement M
+hollow-row-spec =
+    tie.close
+    (tie.spec
+    raise-layers-requires
+    sum3-requires
+    sum3-requires-2
+    sum2-requires
+    along-requires
+    of-i32-requires
+    mul-judge
+    judge-requires
+    same-length
+    same-length-2
+    same-length-3
+    same-length-4
+    same-length-5
+    returns)

@@ -1,0 +1,40 @@
+// Where places lie in the noise's lattice: for each the bits of its whole part and its smoothed fraction. An octave of a
+// row of places is noted once and read for every row after.
+ghost use mathlib.Core.Path.{_≡_};
+ghost use Prim.Native.Nat.{_+_, _≤_};
+ghost use lib.ListN.{length};
+ghost use Rattle.noise_tables.specs.Places.{entryOf, Told};
+use noise::smooth;
+use words::num::floor_part;
+use words::wrap::bits_of;
+
+// The bits of a whole part, and a smoothed fraction.
+pub struct Entry {
+    pub at: u32,
+    pub ease: f32,
+}
+
+pub fn entry_of(x: f32) -> Entry
+    ensures { λ r. ⌜ r ≡ entryOf x ⌝ }
+{
+    let p = floor_part(x);
+    let i = p.i;
+    let at = bits_of(i);
+    let ease = smooth(x - p.f);
+    Entry { at, ease }
+}
+
+// Notes n places from base on.
+pub fn note_octave(xs: &[f32], base: usize, n: usize, floors: &mut [u32], eases: &mut [f32])
+    requires { ⌜ (n ≤ 64) × (base ≤ 65536) × (n ≤ length (now xs)) × (base + n ≤ length (now floors)) × (base + n ≤ length (now eases)) ⌝ }
+    ensures { λ _. ⌜ Told base n (now (xs .entry)) (now (floors .entry)) (now (eases .entry)) (now (floors .exit)) (now (eases .exit)) ⌝ }
+{
+    let mut i = 0;
+    while i < n {
+        let e = entry_of(xs[i]);
+        let j = base + i;
+        floors[j] = e.at;
+        eases[j] = e.ease;
+        i += 1;
+    }
+}

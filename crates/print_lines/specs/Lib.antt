@@ -1,0 +1,4 @@
+pub mod Text
+pub mod Appended
+pub mod Parted
+pub mod Fits

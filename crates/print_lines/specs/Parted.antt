@@ -1,0 +1,19 @@
+-- A field with the tab that parts it from the one before. Assumes nothing.
+use mathlib.Core.Path.{_≡_}
+use mathlib.Core.List.{List, _∷_}
+use Prim.Native.Nat.{ℕ}
+use lib.Dec.{eqb}
+use borrow.Author.Tests.{eq-eqb, ne-eqb}
+use Rattle.text.specs.Pick.{pick}
+
+-- field x of a line, with the tab that parts it from the one before
+unfoldable pub parted : ℕ → List ℕ → List ℕ
+parted x t = pick (eqb x 0) t (9 ∷ t)
+
+pub parted-first : (x : ℕ) (t : List ℕ) → x ≡ 0 → parted x t ≡ t
+unfolding parted
+parted-first x t e = rw (eq-eqb x 0 e)
+
+pub parted-later : (x : ℕ) (t : List ℕ) → (x ≡ 0 → ⊥) → parted x t ≡ 9 ∷ t
+unfolding parted
+parted-later x t e = rw (ne-eqb x 0 e)

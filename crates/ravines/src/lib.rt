@@ -1,0 +1,54 @@
+// Which columns of a chunk's row lie on a ravine: `ravine_here` of `terrain`, with the larger noise worked out by rows.
+ghost use mathlib.Core.Path.{_≡_};
+ghost use Prim.Native.Nat.{_≤_, _<_};
+ghost use lib.ListN.{length};
+ghost use Rattle.noise_tables.specs.Places.{Noted};
+ghost use Rattle.cave_coords.specs.Coords.{coordOf};
+ghost use Rattle.terrain.specs.World.{Near};
+ghost use Rattle.ravines.specs.Cuts.{cutOf, cutAt, CutTo, Cuts};
+use noise::noise2d;
+use noise_rows::fbm_row;
+use terrain::world::Frame;
+use terrain::world::along;
+use words::num::abs;
+use words::num::of_i32;
+
+// n is the larger noise at x and z.
+fn cut_at(n: f32, x: f32, z: f32) -> bool
+    ensures { λ r. ⌜ r ≡ cutOf n x z ⌝ }
+{
+    let detail = noise2d(x * 0.05, z * 0.05);
+    abs(n - 0.5) < 0.015 + detail * 0.008
+}
+
+fn cut_row(f: Frame, z: f32, vals: &[f32], cuts: &mut [bool])
+    requires { ⌜ Near f × (f .size ≤ length (now vals)) × (f .size ≤ length (now cuts)) ⌝ }
+    ensures { λ _. ⌜ CutTo (f .size) (cutAt f z (now (vals .entry))) (now (cuts .exit)) ⌝ }
+{
+    let n = f.size;
+    let mut i = 0;
+    while i < n {
+        let wx = along(f.ox, i);
+        cuts[i] = cut_at(vals[i], of_i32(wx), z);
+        i += 1;
+    }
+}
+
+// The tables are those of `cave_coords`; vals is room for the row's noise.
+pub fn note_cuts(
+    f: Frame,
+    z: usize,
+    floors: &[u32],
+    eases: &[f32],
+    vals: &mut [f32],
+    cuts: &mut [bool],
+)
+    requires { ⌜ Near f × (z < f .size) × Noted (f .size) 27 (coordOf f) (now floors) (now eases) × (length (now floors) ≡ 1728) × (length (now eases) ≡ 1728) × (f .size ≤ length (now vals)) × (f .size ≤ length (now cuts)) ⌝ }
+    ensures { λ _. ⌜ Cuts f z (now (cuts .exit)) ⌝ }
+{
+    let n = f.size;
+    let wz = along(f.oz, z);
+    let v = of_i32(wz);
+    fbm_row(v * 0.01, 3, 512, n, floors, eases, vals);
+    cut_row(f, v, vals, cuts);
+}

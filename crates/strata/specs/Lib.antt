@@ -1,3 +1,0 @@
-pub mod Stack
-pub mod Range
-pub mod Laws
