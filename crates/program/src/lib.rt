@@ -23,7 +23,7 @@ fn text_room() -> [u8; 25000]
 }
 
 // Prints the map of a journal: what was read is the journal, and all of it is held.
-fn print_map(journal: &[u8]) {
+pub fn print_map(journal: &[u8]) {
     let mut cells = cells_room();
     let mut text = text_room();
     let n = report::report(journal, journal.len(), &mut cells, &mut text);

@@ -2,11 +2,10 @@
 ghost use mathlib.Core.Path.{_≡_};
 ghost use Prim.Native.Nat.{_+_, _*_, _≤_, _<_};
 ghost use lib.ListN.{length};
-ghost use Rattle.grid.specs.Cube.{Cube};
 ghost use Rattle.noise_tables.specs.Places as places;
 ghost use Rattle.cave_coords.specs.Coords.{coordOf};
 ghost use Rattle.terrain.specs.World.{Tall, Near};
-ghost use Rattle.terrain.specs.Base.{Noted, baseCells};
+ghost use Rattle.terrain.specs.Base.{Noted};
 ghost use Rattle.cell_lines.specs.Lines.{DoneTo, Flagged};
 ghost use Rattle.row_levels.specs.Rows.{Lent, Ready, Begun};
 use cell_lines::below_level;
@@ -131,7 +130,7 @@ fn begin_row(
 }
 
 // Lays the row at z.
-fn lay_row(
+pub fn lay_row(
     w: World,
     o: Frame,
     z: usize,
@@ -173,46 +172,4 @@ fn lay_row(
         flags,
         cells,
     );
-}
-
-// Lays every row, by the tops that the caches hold.
-pub fn lay_rows(
-    w: World,
-    o: Frame,
-    heights: &[u16],
-    biomes: &[u8],
-    floors: &[u32],
-    eases: &[f32],
-    edges: &mut [f32],
-    a: &mut [f32],
-    b: &mut [f32],
-    c: &mut [f32],
-    cuts: &mut [bool],
-    flags: &mut [bool],
-    cells: &mut [u16],
-)
-    requires { ⌜ Tall w × Near o × Noted w o (now heights) (now biomes) × places.Noted (o .size) 27 (coordOf o) (now floors) (now eases) × Lent o (now floors) (now eases) (now edges) (now a) (now b) (now c) (now flags) × (o .size ≤ length (now cuts)) × Cube (o .size) (now cells) ⌝ }
-    ensures { λ _. ⌜ now (cells .exit) ≡ baseCells w o ⌝ }
-{
-    let size = o.size;
-    let mut z = 0;
-    while z < size {
-        lay_row(
-            w,
-            o,
-            z,
-            heights,
-            biomes,
-            floors,
-            eases,
-            edges,
-            a,
-            b,
-            c,
-            cuts,
-            flags,
-            cells,
-        );
-        z += 1;
-    }
 }

@@ -1,13 +1,59 @@
 // The ground before boulders and trees: the first pass of terrain.rs, laid in the order of the cells.
 ghost use mathlib.Core.Path.{_≡_};
+ghost use Prim.Native.Nat.{_≤_};
 ghost use lib.ListN.{length};
 ghost use Rattle.grid.specs.Cube.{Cube};
+ghost use Rattle.noise_tables.specs.Places as places;
+ghost use Rattle.cave_coords.specs.Coords.{coordOf};
+ghost use Rattle.row_levels.specs.Rows.{Lent};
 ghost use Rattle.terrain.specs.World.{Tall, Near};
 ghost use Rattle.terrain.specs.Base.{Noted, baseCells};
 use cave_coords::note_coords;
-use row_levels::lay_rows;
+use row_levels::lay_row;
 use terrain::world::Frame;
 use terrain::world::World;
+
+// Lays every row, by the tops that the caches hold.
+fn lay_rows(
+    w: World,
+    o: Frame,
+    heights: &[u16],
+    biomes: &[u8],
+    floors: &[u32],
+    eases: &[f32],
+    edges: &mut [f32],
+    a: &mut [f32],
+    b: &mut [f32],
+    c: &mut [f32],
+    cuts: &mut [bool],
+    flags: &mut [bool],
+    cells: &mut [u16],
+)
+    requires { ⌜ Tall w × Near o × Noted w o (now heights) (now biomes) × places.Noted (o .size) 27 (coordOf o) (now floors) (now eases) × Lent o (now floors) (now eases) (now edges) (now a) (now b) (now c) (now flags) × (o .size ≤ length (now cuts)) × Cube (o .size) (now cells) ⌝ }
+    ensures { λ _. ⌜ now (cells .exit) ≡ baseCells w o ⌝ }
+{
+    let size = o.size;
+    let mut z = 0;
+    while z < size {
+        lay_row(
+            w,
+            o,
+            z,
+            heights,
+            biomes,
+            floors,
+            eases,
+            edges,
+            a,
+            b,
+            c,
+            cuts,
+            flags,
+            cells,
+        );
+        z += 1;
+    }
+}
 
 fn no_flags() -> [bool; 64]
     ensures { λ r. ⌜ length r ≡ 64 ⌝ }

@@ -8,7 +8,7 @@ use lib.ListN.{length, drop}
 use Rattle.grid.specs.Cube.{tab}
 use Rattle.grid.specs.Grid.{square-most, fill-length}
 use Rattle.terrain.specs.Base.{columnHeight, columnBiome}
-use Rattle.tops.specs.Laws.{none, more, row-fits}
+use Rattle.row_tops.specs.Laws.{none, more, row-fits}
 use Rattle.tops.proofs.note_each.Statement.{statement}
 use Rattle.tops.proofs.note_each.Tie as tie
 

@@ -12,7 +12,7 @@ use Rattle.column.specs.Column.{climateOf, reliefOf}
 use Rattle.column_read.specs.Laws.{climate-in, relief-in}
 use Rattle.terrain.specs.World.{Near}
 use Rattle.terrain.proofs.Signed.{back}
-use Rattle.tops.specs.Tops.{zAt, Laid}
+use Rattle.row_tops.specs.Tops.{zAt, Laid}
 use borrow.Author.Needs.{needs}
 use Rattle.tops.proofs.note_row.Statement.{statement}
 use Rattle.tops.proofs.note_row.Tie as tie

@@ -1,4 +1,0 @@
-// A first line without its LF.
-fn main() {
-    program::open_map();
-}
