@@ -15,7 +15,8 @@ use Rattle.boulders.specs.Signs.{rangeLength}
 
 -- an i32 as a count: 0 where it is negative
 pub floor-cast : (z : ℤ) → mag z < 2 ^ 31 → ltZ (again z) (pos 0) ≡ false → T (nonNeg (again z)) × Fits w64 (natAbs (again z))
-floor-cast z h e = subst (λ (u : ℤ). T (nonNeg u) × Fits w64 (natAbs u)) (sym b) (up 0 z (record { sfits = omega arith }) (subst (λ (u : ℤ). ltZ u (pos 0) ≡ false) b e) .0)
+floor-cast z h e =
+    subst (λ (u : ℤ). T (nonNeg u) × Fits w64 (natAbs u)) (sym b) (up 0 z (record { sfits = omega arith }) (subst (λ (u : ℤ). ltZ u (pos 0) ≡ false) b e) .0)
   where
     b : again z ≡ z
     b = toZ-ofZ w32 z (record { sfits = h })

@@ -24,4 +24,5 @@ unfoldable pub ravineCut : Float → Float → Float → Float → Bool
 ravineCut x y z h = ravineHere x z && lt (h -f nat 20) y && lt y (h -f nat 1)
 
 unfoldable pub carved : ℤ → ℤ → ℤ → ℤ → Bool
-carved wx wy wz h = spaghettiCave (real wx) (real wy) (real wz) || largeCavern (real wx) (real wy) (real wz) (real h) || ravineCut (real wx) (real wy) (real wz) (real h)
+carved wx wy wz h =
+    spaghettiCave (real wx) (real wy) (real wz) || largeCavern (real wx) (real wy) (real wz) (real h) || ravineCut (real wx) (real wy) (real wz) (real h)

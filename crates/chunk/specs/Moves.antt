@@ -191,7 +191,8 @@ height-inside s x z h y l = at (ltb x s) refl (ltb z s) refl l
 
 -- the list of a list's elements
 pub tab-list : (c : List ℕ) → tab (length c) (λ (k : ℕ). getD c k 0) ≡ c
-tab-list c = ext-getD 0 _ c (tab-length (length c) (λ (k : ℕ). getD c k 0)) (λ i h. tab-at (length c) (λ (k : ℕ). getD c k 0) i (let e = tab-length (length c) (λ (k : ℕ). getD c k 0) in omega arith))
+tab-list c =
+    ext-getD 0 _ c (tab-length (length c) (λ (k : ℕ). getD c k 0)) (λ i h. tab-at (length c) (λ (k : ℕ). getD c k 0) i (let e = tab-length (length c) (λ (k : ℕ). getD c k 0) in omega arith))
 
 -- ---- what a set and a column move
 

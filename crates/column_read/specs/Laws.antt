@@ -14,7 +14,8 @@ use Rattle.column_read.specs.Read.{climateIn, reliefIn}
 pub climate-in : (n : ℕ) (xs : List Float) (z : Float) (temp moisture : List Float) → ClimateRows n xs z temp moisture
     → (i : ℕ) → i < n → climateIn temp moisture i ≡ climateOf (at xs i) z
 unfolding climateIn climateOf offsetRow
-climate-in n xs z temp moisture r i h = ap₂ (λ (t m : Float). columnWith t m (nat 0) (nat 0) (nat 0) (nat 0) (nat 0) (nat 0) (nat 0) (nat 0)) (r .warm .holds i h) (r .wet .holds i h)
+climate-in n xs z temp moisture r i h =
+    ap₂ (λ (t m : Float). columnWith t m (nat 0) (nat 0) (nat 0) (nat 0) (nat 0) (nat 0) (nat 0) (nat 0)) (r .warm .holds i h) (r .wet .holds i h)
 
 abbrev relief : Float → Float → Float → Float → Float → Float → Float → Relief
 relief continent detail micro ridges plateau dune hill = record {

@@ -23,7 +23,11 @@ neg-mag (suc k) = omega arith
 
 pub prod-mag : (c : ℤ) (n : ℕ) → mag c < 1099511627776 → n ≤ 64 → mag (c *ℤ pos n) ≤ 1099511627776 * 64
 prod-mag (pos a) n h k = let g : a ≤ 1099511627776 = omega arith in mul-le-mul g k
-prod-mag (negsuc a) n h k = let g : suc a ≤ 1099511627776 = h in let p : suc a * n ≤ 1099511627776 * 64 = mul-le-mul g k in let q = neg-mag (suc a * n) in omega arith
+prod-mag (negsuc a) n h k =
+    let g : suc a ≤ 1099511627776 = h in
+    let p : suc a * n ≤ 1099511627776 * 64 = mul-le-mul g k in
+    let q = neg-mag (suc a * n) in
+    omega arith
 
 sub-mag : (x y : ℕ) (t : Bool) → mag (cond t (negsuc (y - suc x)) (pos (x - y))) ≤ x + y
 sub-mag x y true = omega arith

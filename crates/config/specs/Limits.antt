@@ -38,7 +38,8 @@ placesOk h = placeOk (h .«chunk_size») (h .cx) && placeOk (h .«chunk_size») 
 
 -- "1 size. 2 seed. 3 sea level. 4 world height. 5 place.", the first that is off its limits, or 0
 unfoldable pub limitRefusal : Header → ℕ
-limitRefusal h = refusal (must (sizeOk (h .«chunk_size»)) 1 ∷ must (seedOk (h .seed)) 2 ∷ must (seaOk (h .«sea_level»)) 3 ∷ must (heightOk (h .«world_height_blocks»)) 4 ∷ must (placesOk h) 5 ∷ [])
+limitRefusal h =
+    refusal (must (sizeOk (h .«chunk_size»)) 1 ∷ must (seedOk (h .seed)) 2 ∷ must (seaOk (h .«sea_level»)) 3 ∷ must (heightOk (h .«world_height_blocks»)) 4 ∷ must (placesOk h) 5 ∷ [])
 
 -- the order of the journal's first line: "G seed sea height size cx cy cz"
 abbrev pub header : ℤ → ℤ → ℤ → ℤ → ℤ → ℤ → ℤ → Header

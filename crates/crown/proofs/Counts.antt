@@ -21,5 +21,6 @@ one-less l = ap (λ (b : Bool). cond b (negsuc (1 - suc (suc l))) (pos (suc l - 
 
 -- the level of layer l, one below the top and up
 pub layer-level : (top l : ℕ) → 1 ≤ top → pos (top + l - 1) ≡ pos top +ℤ (pos l -ℤ pos 1)
-layer-level top zero h = ap pos (let e : top + 0 - 1 ≡ top - 1 = omega arith in e) ∙ sym (ap (λ (b : Bool). cond b (negsuc (1 - suc top)) (pos (top - 1))) (le-ltb top 1 h))
+layer-level top zero h =
+    ap pos (let e : top + 0 - 1 ≡ top - 1 = omega arith in e) ∙ sym (ap (λ (b : Bool). cond b (negsuc (1 - suc top)) (pos (top - 1))) (le-ltb top 1 h))
 layer-level top (suc l) h = ap pos (let e : top + suc l - 1 ≡ top + l = omega arith in e) ∙ ap (λ (z : ℤ). pos top +ℤ z) (sym (one-less l))

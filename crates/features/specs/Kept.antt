@@ -114,7 +114,8 @@ grown-more : (a b c : List ℕ) → Grown a b → Grown b c → Grown a c
 grown-more a b c p q = record { long = q .long ∙ p .long; ids = λ h. q .ids (p .ids h); full = λ i h. q .full i (p .full i h) }
 
 grown-one : (c : List ℕ) (j v : ℕ) → 0 < v → v < 65536 → Grown c (set c j v)
-grown-one c j v p q = record { long = length-set c j v; ids = λ h i. set-ids c j v i q (h i) (ltb i (length (set c j v))) refl (eqb i j) refl; full = λ i h. set-full c j v i p h (ltb i (length c)) refl (eqb i j) refl }
+grown-one c j v p q =
+    record { long = length-set c j v; ids = λ h i. set-ids c j v i q (h i) (ltb i (length (set c j v))) refl (eqb i j) refl; full = λ i h. set-full c j v i p h (ltb i (length c)) refl (eqb i j) refl }
 
 pub grown-boulders : (o : Frame) (t : ℕ → Top) (c : List ℕ) → Grown c (bouldersOf o t c)
 grown-boulders o t c = boulders-kept Grown grown-same grown-more grown-one o t c

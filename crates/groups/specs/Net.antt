@@ -26,7 +26,8 @@ change before after = record { before = before; after = after }
 pub net-outside : (size : ℕ) (ns : List ℕ) (k : ℕ) (c : List ℕ) (g : Group) → g ≡ groupOf ns (4 * k) → groupInside size g ≡ false
     → Net (laid size ns k c) (laid size ns (k + 1) c) 1 (change 0 0)
 net-outside size ns k c g e i =
-    let f = ap nonAirCount (sym (laid-more size ns k c) ∙ sym (ap (λ (a : Group). putGroup size a (laid size ns k c)) e) ∙ put-outside size g (laid size ns k c) i) in
+    let f =
+    ap nonAirCount (sym (laid-more size ns k c) ∙ sym (ap (λ (a : Group). putGroup size a (laid size ns k c)) e) ∙ put-outside size g (laid size ns k c) i) in
     record { moves = omega arith; most-before = omega arith; most-after = omega arith }
 
 -- a group in the chunk takes its cell from what it holds to the group's id

@@ -54,7 +54,8 @@ use Rattle.session.proofs.set as callee
 use Rattle.host.proofs.by_reference.pl_session_set as f
 
 abbrev stayed : Stays (f.ended .signature .params) (f.ended .kept)
-stayed = (stay-ref (0 ∷ []) tt (plain (λ _. S.the-row)), (gave-slice (1 ∷ []) tt (plain (λ _. u16)), (gave-slice (2 ∷ []) tt (plain (λ _. u8)), (stay-none (λ _. usize) yes, (stay-none (λ _. usize) yes, (stay-none (λ _. usize) yes, (stay-none (λ _. u16) yes, tt)))))))
+stayed =
+    (stay-ref (0 ∷ []) tt (plain (λ _. S.the-row)), (gave-slice (1 ∷ []) tt (plain (λ _. u16)), (gave-slice (2 ∷ []) tt (plain (λ _. u8)), (stay-none (λ _. usize) yes, (stay-none (λ _. usize) yes, (stay-none (λ _. usize) yes, (stay-none (λ _. u16) yes, tt)))))))
 
 -- what the callee's contract and the call's own equate with an outcome
 abbrev pub Def : Type 0

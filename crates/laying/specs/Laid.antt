@@ -23,8 +23,10 @@ steps-same (suc n) f g c h = h n (steps n f c) (omega arith) ∙ ap (g n) (steps
 -- passes over columns of equal tops are equal
 pub boulders-same : (o : Frame) (t u : ℕ → Top) (c : List ℕ) → ((k : ℕ) → k < o .size * o .size → t k ≡ u k) → bouldersOf o t c ≡ bouldersOf o u c
 unfolding bouldersOf boulderStep
-boulders-same o t u c h = steps-same (o .size * o .size) (boulderStep o t) (boulderStep o u) c (λ k d l. ap (λ (v : Top). boulderColumn o v (k % o .size) (k / o .size) d) (h k l))
+boulders-same o t u c h =
+    steps-same (o .size * o .size) (boulderStep o t) (boulderStep o u) c (λ k d l. ap (λ (v : Top). boulderColumn o v (k % o .size) (k / o .size) d) (h k l))
 
 pub trees-same : (o : Frame) (sea : ℤ) (t u : ℕ → Top) (c : List ℕ) → ((k : ℕ) → k < o .size * o .size → t k ≡ u k) → treesOf o sea t c ≡ treesOf o sea u c
 unfolding treesOf treeStep
-trees-same o sea t u c h = steps-same (o .size * o .size) (treeStep o sea t) (treeStep o sea u) c (λ k d l. ap (λ (v : Top). treeColumn o sea v (k % o .size) (k / o .size) d) (h k l))
+trees-same o sea t u c h =
+    steps-same (o .size * o .size) (treeStep o sea t) (treeStep o sea u) c (λ k d l. ap (λ (v : Top). treeColumn o sea v (k % o .size) (k / o .size) d) (h k l))

@@ -21,7 +21,8 @@ pub start : (f : ℕ → Float) (l : List Float) → Filling 0 f l l
 start f l = record { same = refl; done = λ j h. absurd (omega arith); rest = λ j h. refl }
 
 pub step : (f : ℕ → Float) (old l : List Float) (i : ℕ) (v : Float) → Filling i f old l → i < length old → v ≡ f i → Filling (i + 1) f old (set l i v)
-step f old l i v r h e = record { same = length-set l i v ∙ r .same; done = λ j k. one j k (ltb j i) refl; rest = λ j k. other j (omega arith) ∙ r .rest j (omega arith) }
+step f old l i v r h e =
+    record { same = length-set l i v ∙ r .same; done = λ j k. one j k (ltb j i) refl; rest = λ j k. other j (omega arith) ∙ r .rest j (omega arith) }
   where
     other : (j : ℕ) → (j ≡ i → ⊥) → at (set l i v) j ≡ at l j
     other j k = getD-set-other l i j v nan k

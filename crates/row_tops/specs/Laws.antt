@@ -24,7 +24,9 @@ use Rattle.row_tops.specs.Tops.{topOf, xAt, zAt, noteAt}
 -- a height lies in 1 to the greatest, whatever the noise
 pub surface-range : (w : World) (t : Tall w) (c : Column) (n : Relief) (sl : Float) → Range (t .top) (surfaceOf c n sl (w .«max_height») .height)
 unfolding surfaceOf
-surface-range w t c n sl = let col = heightsOf (weightsOf c) n sl in subst (λ (z : ℤ). Range (t .top) (heightOf col z)) (sym (t .is)) (height-within col (t .top) (t .least))
+surface-range w t c n sl =
+    let col = heightsOf (weightsOf c) n sl in
+    subst (λ (z : ℤ). Range (t .top) (heightOf col z)) (sym (t .is)) (height-within col (t .top) (t .least))
 
 -- the top of the column at x in row z, of that column's climate and relief
 pub row-top : (w : World) (o : Frame) (z x : ℕ) → x < o .size

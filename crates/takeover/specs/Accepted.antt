@@ -107,9 +107,12 @@ after-undo a b e = e
 line-gives : (m : Model) (d : Line) (p : LineOk (modelSize m) d) (b : Active) → after (m .active) d ≡ some b → length (ended (saidText d)) ≤ left m
     → Gives m (modelStep m (callOf (modelSize m) d p)) b (saidText d)
 unfolding modelStep
-line-gives m (edits (set x y z id)) p b a h = subst (λ (k : Asked). Gives m (modelEdit m k) b (editText (set x y z id))) (sym (asked (modelSize m) (set x y z id) p)) (edit-gives m (set x y z id) b a h)
-line-gives m (edits (column x z height id)) p b a h = subst (λ (k : Asked). Gives m (modelEdit m k) b (editText (column x z height id))) (sym (asked (modelSize m) (column x z height id) p)) (edit-gives m (column x z height id) b a h)
-line-gives m (edits (batch gs)) p b a h = subst (λ (k : Asked). Gives m (modelEdit m k) b (editText (batch gs))) (sym (asked (modelSize m) (batch gs) p)) (edit-gives m (batch gs) b a h)
+line-gives m (edits (set x y z id)) p b a h =
+    subst (λ (k : Asked). Gives m (modelEdit m k) b (editText (set x y z id))) (sym (asked (modelSize m) (set x y z id) p)) (edit-gives m (set x y z id) b a h)
+line-gives m (edits (column x z height id)) p b a h =
+    subst (λ (k : Asked). Gives m (modelEdit m k) b (editText (column x z height id))) (sym (asked (modelSize m) (column x z height id) p)) (edit-gives m (column x z height id) b a h)
+line-gives m (edits (batch gs)) p b a h =
+    subst (λ (k : Asked). Gives m (modelEdit m k) b (editText (batch gs))) (sym (asked (modelSize m) (batch gs) p)) (edit-gives m (batch gs) b a h)
 line-gives m undoes p b a h = undo-gives m b (m .active .edits) (after-undo (m .active) b a) h
 line-gives m wrong p b a h = absurd p
 

@@ -155,12 +155,15 @@ module _ (f : First) (calls : List Call) (rs : List Reply) (t : Tablet) (made : 
       let n = first-cut (model f) (began f) (headerText (configHeader (f .args .0) (f .args .1 .0))) (first-bytes f) (header-noLF (configHeader (f .args .0) (f .args .1 .0)))
       (start f .good) (holds f) calls q (subst (λ (b : List ℕ). q < length b) (sym (first-bytes f)) h) to-used in
       let l : length (now (o .args .1 .0)) ≤ 32768 = (let s = short f in omega (arith, cut .journal)) in
-      let e = did ∙ reopens-none (now (o .args .0)) (now (o .args .1 .0)) (q + length tail) l (cut .within) (subst NoLF (sym bytes) (noLF-append (take q (run (began f) calls .journal)) tail n (cut .no-LF))) in
+      let e =
+      did
+      ∙ reopens-none (now (o .args .0)) (now (o .args .1 .0)) (q + length tail) l (cut .within) (subst NoLF (sym bytes) (noLF-append (take q (run (began f) calls .journal)) tail n (cut .no-LF))) in
       (ap (λ (r : Resumed). r .answer) e, ap (λ (r : Resumed). r .cells) e)
 
   over : length (firstLine f) ≤ q → TakenOver f calls rs confirmed q tail o
   over h =
-      let k = taken (model f) (began f) (start f .good) (holds f) calls confirmed q tail (now (o .args .0)) (now (o .args .1 .0)) (subst (λ (b : List ℕ). length b ≤ q) (sym (first-bytes f)) h) handover in
+      let k =
+      taken (model f) (began f) (start f .good) (holds f) calls confirmed q tail (now (o .args .0)) (now (o .args .1 .0)) (subst (λ (b : List ℕ). length b ≤ q) (sym (first-bytes f)) h) handover in
       let e = did ∙ k .answer in
       record {
         second = k .second;

@@ -24,7 +24,8 @@ use Rattle.terrain.specs.declared.world.Top.{Top}
 
 -- a column's height lies in 1 to the greatest
 pub world-range : (w : World) (t : Tall w) (wx wz : ℤ) → Range (t .top) (biomeAndHeight wx wz (w .«sea_level») (w .«max_height») (w .«seed_offset») .height)
-world-range w t wx wz = subst (λ (z : ℤ). Range (t .top) (biomeAndHeight wx wz (w .«sea_level») z (w .«seed_offset») .height)) (sym (t .is)) (height-range wx wz (w .«sea_level») (t .top) (w .«seed_offset») (t .least))
+world-range w t wx wz =
+    subst (λ (z : ℤ). Range (t .top) (biomeAndHeight wx wz (w .«sea_level») z (w .«seed_offset») .height)) (sym (t .is)) (height-range wx wz (w .«sea_level») (t .top) (w .«seed_offset») (t .least))
 
 pub height-least : (w : World) (t : Tall w) (wx wz : ℤ) → 1 ≤ heightAt w wx wz
 unfolding heightAt
@@ -96,7 +97,8 @@ cell-id false v b wy h sea = ground-id (ltZ (pos 0) wy && ltZ wy (h -ℤ pos 1))
 
 pub base-id : (w : World) (wx wy wz : ℤ) → baseCell w wx wy wz < 65536
 unfolding baseCell cellUnder cellWith
-base-id w wx wy wz = cell-id (leZ (pos (topAt w wx wz .height)) wy) (carved wx wy wz (pos (topAt w wx wz .height))) (biomeNumbered (topAt w wx wz .biome)) wy (pos (topAt w wx wz .height)) (w .«sea_level»)
+base-id w wx wy wz =
+    cell-id (leZ (pos (topAt w wx wz .height)) wy) (carved wx wy wz (pos (topAt w wx wz .height))) (biomeNumbered (topAt w wx wz .biome)) wy (pos (topAt w wx wz .height)) (w .«sea_level»)
 
 -- where the level admits no cave, it does not matter what is said of one
 ground-told : (t v u : Bool) (b : Biome) (wy h sea : ℤ) → (t ≡ true → v ≡ u) → groundCell t v b wy h sea ≡ groundCell t u b wy h sea

@@ -131,7 +131,8 @@ put-part-length start size g p = at (groupInside size g) (ltb i start) (ltb (i -
 
 pub part-laid-length : (start size : ℕ) (ns : List ℕ) (k : ℕ) (p : List ℕ) → length (partLaid start size ns k p) ≡ length p
 unfolding partLaid
-part-laid-length start size ns k p = steps-length k (λ (j : ℕ). λ (d : List ℕ). putPart start size (groupOf ns (4 * j)) d) p (λ j d. put-part-length start size (groupOf ns (4 * j)) d)
+part-laid-length start size ns k p =
+    steps-length k (λ (j : ℕ). λ (d : List ℕ). putPart start size (groupOf ns (4 * j)) d) p (λ j d. put-part-length start size (groupOf ns (4 * j)) d)
 
 -- ---- the counts of the parts make the count of the cells
 

@@ -49,7 +49,8 @@ whole-most (fin false m e) n d p h =
 
 -- times 500, a number that is at most 0.006 gives at most 3
 times-most : (m : ℕ) (e : ℤ) → m * up e * 1073741824 ≤ 6442451 * down e → T (le (round binary32 false (m * up e * 500) (down e * 1)) (fin false 3 (pos 0)))
-times-most m e h = subst (λ (z : Float). T (le (round binary32 false (m * up e * 500) (down e * 1)) z)) limit-times (round-mono binary32 (m * up e * 500) (down e * 1) (6442451 * 500) 1073741824 (mul-pos (down-pos e) (omega arith)) (omega arith) (omega arith))
+times-most m e h =
+    subst (λ (z : Float). T (le (round binary32 false (m * up e * 500) (down e * 1)) z)) limit-times (round-mono binary32 (m * up e * 500) (down e * 1) (6442451 * 500) 1073741824 (mul-pos (down-pos e) (omega arith)) (omega arith) (omega arith))
 
 nan-most : wholePart nan ≤ 3
 unfolding wholePart toI32 toSigned
@@ -67,5 +68,6 @@ part-most (fin false m x) p e = whole-most _ 3 (pos 0) (mul-plus (fin false m x)
 pub boulder-most : (h : Float) → plus h ≡ true → lt (nearest 6 1000) h ≡ false → rangeLength (boulderHeight h) ≤ 5
 unfolding boulderHeight
 boulder-most h p e =
-    let k : wholePart (h *f nat 500) ≤ 3 = subst (λ (z : Float). wholePart (h *f z) ≤ 3) (sym factor-is) (part-most h p (ap (λ (z : Float). lt z h) (sym limit-is) ∙ e)) in
+    let k : wholePart (h *f nat 500) ≤ 3 =
+    subst (λ (z : Float). wholePart (h *f z) ≤ 3) (sym factor-is) (part-most h p (ap (λ (z : Float). lt z h) (sym limit-is) ∙ e)) in
     subst (λ (z : ℤ). rangeLength z ≤ 5) (sym (sum-natural 2 500 h p)) (omega arith)

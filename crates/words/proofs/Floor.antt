@@ -81,8 +81,10 @@ size-is n l h =
 pub rounded : (s : Bool) (num den : ℕ) → 0 < den → 8388608 * den ≤ num → num < 16777216 * den
     → (n : ℕ) × (Is (round binary32 s num den) s n × Near n num den)
 rounded s num den p l h =
-    let lo : 2 ^ 172 ≤ num * 2 ^ 149 / den = le-div-iff-mul-le p .1 (le-trans (le-of-eq (sym (mul-right-comm 8388608 den (2 ^ 149)))) (mul-le-mul-right (2 ^ 149) l)) in
-    let hi : num * 2 ^ 149 / den < 2 ^ 173 = div-lt-iff-lt-mul p .1 (lt-of-lt-of-le (mul-lt-mul-of-pos-right h (pow-pos 149)) (le-of-eq (mul-right-comm 16777216 den (2 ^ 149)))) in
+    let lo : 2 ^ 172 ≤ num * 2 ^ 149 / den =
+    le-div-iff-mul-le p .1 (le-trans (le-of-eq (sym (mul-right-comm 8388608 den (2 ^ 149)))) (mul-le-mul-right (2 ^ 149) l)) in
+    let hi : num * 2 ^ 149 / den < 2 ^ 173 =
+    div-lt-iff-lt-mul p .1 (lt-of-lt-of-le (mul-lt-mul-of-pos-right h (pow-pos 149)) (le-of-eq (mul-right-comm 16777216 den (2 ^ 149)))) in
     let k : size (num * 2 ^ 149 / den) - 24 ≡ 149 = size-is (num * 2 ^ 149 / den) lo hi in
     let y = closest num den in
     let e : round binary32 s num den ≡ units binary32 s y 149 =
@@ -105,7 +107,8 @@ unfolding sum
 taken A d n b p e h =
     let g : b * d ≤ n * d = mul-le-mul-right d h in
     let l : ltb (A * 1) (b * d) ≡ false = le-ltb (A * 1) (b * d) (omega arith) in
-    let w : (A * 1 - b * d) * 1 ≡ (n - b) * (d * 1) = (let z = mul-comm (n - b) d in let v = mul-sub d n b in let x = mul-comm d n in let y = mul-comm d b in omega arith) in
+    let w : (A * 1 - b * d) * 1 ≡ (n - b) * (d * 1) =
+    (let z = mul-comm (n - b) d in let v = mul-sub d n b in let x = mul-comm d n in let y = mul-comm d b in omega arith) in
     ap (λ (t : Bool). cond t (round binary32 true (b * d - A * 1) (d * 1)) (round binary32 false (A * 1 - b * d) (d * 1))) l
     ∙ round-same binary32 false (A * 1 - b * d) (d * 1) (n - b) 1 (omega arith) (zero-lt-suc 0) w
 
@@ -636,9 +639,11 @@ fraction : (s : Bool) (m k : ℕ) → T (fits binary32 (fin s m (negsuc k))) →
 unfolding fits
 fraction s zero k t z = let h = eqb→eq (1 * 2 ^ suc k) 1 t in let p = pow-pos k in let g = pow-suc 2 k in omega arith
 fraction s (suc m) k t z =
-    let o = eqb→eq (suc m % 2) 1 (and-l (eqb (suc m % 2) 1) (ltb (suc m) 16777216) (and-l (eqb (suc m % 2) 1 && ltb (suc m) 16777216) (leb (2 ^ suc k) (2 ^ 149)) (and-l (eqb (suc m % 2) 1 && ltb (suc m) 16777216 && leb (2 ^ suc k) (2 ^ 149)) (ltb (suc m * 1) (2 ^ 128 * 2 ^ suc k)) t))) in
+    let o =
+    eqb→eq (suc m % 2) 1 (and-l (eqb (suc m % 2) 1) (ltb (suc m) 16777216) (and-l (eqb (suc m % 2) 1 && ltb (suc m) 16777216) (leb (2 ^ suc k) (2 ^ 149)) (and-l (eqb (suc m % 2) 1 && ltb (suc m) 16777216 && leb (2 ^ suc k) (2 ^ 149)) (ltb (suc m * 1) (2 ^ 128 * 2 ^ suc k)) t))) in
     let d = div-add-mod' (suc m) (2 ^ suc k) in
-    let g : suc m / 2 ^ suc k * 2 ^ suc k ≡ suc m / 2 ^ suc k * 2 ^ k * 2 = ap (λ (u : ℕ). suc m / 2 ^ suc k * u) (pow-suc 2 k) ∙ sym (mul-assoc (suc m / 2 ^ suc k) (2 ^ k) 2) in
+    let g : suc m / 2 ^ suc k * 2 ^ suc k ≡ suc m / 2 ^ suc k * 2 ^ k * 2 =
+    ap (λ (u : ℕ). suc m / 2 ^ suc k * u) (pow-suc 2 k) ∙ sym (mul-assoc (suc m / 2 ^ suc k) (2 ^ k) 2) in
     let e : suc m ≡ suc m / 2 ^ suc k * 2 ^ k * 2 = omega arith in
     let r : suc m % 2 ≡ 0 = ap (λ (u : ℕ). u % 2) e ∙ mul-mod-left (suc m / 2 ^ suc k * 2 ^ k) 2 in
     omega arith
@@ -719,7 +724,8 @@ floor-part-is (fin s m (pos i)) f h k =
 floor-part-is (fin s m (negsuc i)) f h k =
     let g = in-23 s m (negsuc i) h k in
     let l : m < 8388608 * 2 ^ suc i = (let w : m * 1 < 8388608 * 2 ^ suc i = g in omega arith) in
-    let e : ofInt binary32 (floorI (fin s m (negsuc i))) ≡ ofInt binary32 (floorQ s m (2 ^ suc i)) = ap (ofInt binary32) (floor-is s m (negsuc i) g ∙ ap (λ (a : ℕ). floorQ s a (2 ^ suc i)) (mul-one m)) in
+    let e : ofInt binary32 (floorI (fin s m (negsuc i))) ≡ ofInt binary32 (floorQ s m (2 ^ suc i)) =
+    ap (ofInt binary32) (floor-is s m (negsuc i) g ∙ ap (λ (a : ℕ). floorQ s a (2 ^ suc i)) (mul-one m)) in
     ((λ y. e), (λ y. clash (ap (λ (u : Float). lt u (fin s m (negsuc i))) e ∙ part-x s m i (fraction s m i f) l) y))
 
 pub floor-far-above : (x : Float) → T (fits binary32 x) → lt x (fin false 1 (pos 23)) ≡ false → x ≡ floor₃₂ x

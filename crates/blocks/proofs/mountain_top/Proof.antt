@@ -25,7 +25,8 @@ returns c = sym (simp (test w32 (λ (z : ℤ). ltZ z (pos 41)) (c .before .fits 
 
 returns-2 : tie.Need-returns-2
 unfolding mountainTop
-returns-2 c = sym (simp (test w32 (λ (z : ℤ). ltZ z (pos 41)) (c .before .before .fits .height) (c .before .if1 .left), test w32 (λ (z : ℤ). ltZ z (pos 56)) (c .before .before .fits .height) (c .if2 .taken)))
+returns-2 c =
+    sym (simp (test w32 (λ (z : ℤ). ltZ z (pos 41)) (c .before .before .fits .height) (c .before .if1 .left), test w32 (λ (z : ℤ). ltZ z (pos 56)) (c .before .before .fits .height) (c .if2 .taken)))
 
 returns-3 : tie.Need-returns-3
 unfolding mountainTop

@@ -23,11 +23,15 @@ returns c =
 
 returns-2 : tie.Need-returns-2
 unfolding plainsBlock
-returns-2 c = let s = c .before .before in sym (simp (test w64 (λ (z : ℤ). ltZ z (pos 2)) (s .fits .depth) (c .before .if1 .left), test w64 (λ (z : ℤ). ltZ z (pos 5)) (s .fits .depth) (c .if2 .taken)))
+returns-2 c =
+    let s = c .before .before in
+    sym (simp (test w64 (λ (z : ℤ). ltZ z (pos 2)) (s .fits .depth) (c .before .if1 .left), test w64 (λ (z : ℤ). ltZ z (pos 5)) (s .fits .depth) (c .if2 .taken)))
 
 returns-3 : tie.Need-returns-3
 unfolding plainsBlock
-returns-3 c = let s = c .before .before in sym (simp (test w64 (λ (z : ℤ). ltZ z (pos 2)) (s .fits .depth) (c .before .if1 .left), test w64 (λ (z : ℤ). ltZ z (pos 5)) (s .fits .depth) (c .if2 .left)))
+returns-3 c =
+    let s = c .before .before in
+    sym (simp (test w64 (λ (z : ℤ). ltZ z (pos 2)) (s .fits .depth) (c .before .if1 .left), test w64 (λ (z : ℤ). ltZ z (pos 5)) (s .fits .depth) (c .if2 .left)))
 
 pub plains-spec : {M : Type 1} → statement M
 plains-spec = tie.close (tie.spec shore-requires returns returns-2 returns-3)

@@ -18,7 +18,8 @@ returns : tie.Need-returns
 unfolding shoreBlock
 returns c =
     let s = c .before .before in
-    let e = read w64 (c .before .gap .ok) (c .before .gap .ensures ∙ ap₂ _-ℤ_ (toZ-ofZ w32 (s .args .height) (s .fits .height)) (toZ-ofZ w32 (s .args .sea-level) (s .fits .sea-level))) in
+    let e =
+    read w64 (c .before .gap .ok) (c .before .gap .ensures ∙ ap₂ _-ℤ_ (toZ-ofZ w32 (s .args .height) (s .fits .height)) (toZ-ofZ w32 (s .args .sea-level) (s .fits .sea-level))) in
     let d : ltZ (s .args .height -ℤ s .args .sea-level) (pos 3) ≡ true = sym (ap (λ (z : ℤ). ltZ z (pos 3)) e) ∙ c .if1 .taken in
     rw d
 
@@ -26,7 +27,8 @@ returns-2 : tie.Need-returns-2
 unfolding shoreBlock
 returns-2 c =
     let s = c .before .before in
-    let e = read w64 (c .before .gap .ok) (c .before .gap .ensures ∙ ap₂ _-ℤ_ (toZ-ofZ w32 (s .args .height) (s .fits .height)) (toZ-ofZ w32 (s .args .sea-level) (s .fits .sea-level))) in
+    let e =
+    read w64 (c .before .gap .ok) (c .before .gap .ensures ∙ ap₂ _-ℤ_ (toZ-ofZ w32 (s .args .height) (s .fits .height)) (toZ-ofZ w32 (s .args .sea-level) (s .fits .sea-level))) in
     let d : ltZ (s .args .height -ℤ s .args .sea-level) (pos 3) ≡ false = sym (ap (λ (z : ℤ). ltZ z (pos 3)) e) ∙ c .if1 .left in
     rw d
 

@@ -38,7 +38,10 @@ same-length c = search needs
 
 returns-3 : tie.Need-returns-3
 unfolding placeBoulder boulderHeight nearest ofBits
-returns-3 c = let s = c .before .before .before .before .before .before .before .before .before in let a = s .args in rw (eq-eqb _ _ (c .before .before .before .before .before .before .before .if1 .left), c .before .before .before .before .before .before .if2 .left) (c .before .before .pillar .ensures ∙ ap₂ (λ (u : ℤ) (n : ℕ). pillarOf (a .size) u (a .x) (a .z) (a .t .height) n 1 (a .cells .now)) (back (a .oy) (s .pre .1)) (ap (λ (k : ℕ). 2 + k) (c .before .before .before .before .before .whole .ensures .0) ∙ sym (ap rangeLength (sum-natural 2 500 (a .h) (s .pre .3)))))
+returns-3 c =
+    let s = c .before .before .before .before .before .before .before .before .before in
+    let a = s .args in
+    rw (eq-eqb _ _ (c .before .before .before .before .before .before .before .if1 .left), c .before .before .before .before .before .before .if2 .left) (c .before .before .pillar .ensures ∙ ap₂ (λ (u : ℤ) (n : ℕ). pillarOf (a .size) u (a .x) (a .z) (a .t .height) n 1 (a .cells .now)) (back (a .oy) (s .pre .1)) (ap (λ (k : ℕ). 2 + k) (c .before .before .before .before .before .whole .ensures .0) ∙ sym (ap rangeLength (sum-natural 2 500 (a .h) (s .pre .3)))))
 
 pub boulder-at-spec : {M : Type 1} → statement M
 boulder-at-spec =

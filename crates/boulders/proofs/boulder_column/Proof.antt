@@ -34,7 +34,8 @@ boulder-at-requires c κs =
     let s = c .before .before .before .before .before .before .before .before .before .before in
     let o = s .args .o in
     let p : Near o = s .pre .1 in
-    let h : plus (c .before .before .boulder-hash .result) ≡ true = subst (λ (f : Float). plus f ≡ true) (sym (c .before .before .boulder-hash .ensures)) (hash2-plus _ _) in
+    let h : plus (c .before .before .boulder-hash .result) ≡ true =
+    subst (λ (f : Float). plus f ≡ true) (sym (c .before .before .boulder-hash .ensures)) (hash2-plus _ _) in
     (s .pre .0, subst (λ (u : ℤ). mag u ≤ 1000000) (sym (back (o .oy) (p .y))) (p .y), s .pre .2, h)
 
 same-length : tie.Need-same-length
@@ -42,11 +43,27 @@ same-length c = search needs
 
 returns : tie.Need-returns
 unfolding boulderColumn
-returns c = let s = c .before .before .before .before .before .before .before .before .before .before .before .before .before in let a = s .args in let o = a .o in let p : Near o = s .pre .1 in let e : insetIn 1 (o .size) (a .x) (a .z) ≡ true = sym (c .before .before .before .before .before .before .before .before .before .before .before .inset .ensures) ∙ c .before .before .before .before .before .before .before .before .before .before .if1 .taken in rw e (c .before .before .boulder-at .ensures ∙ ap₂ (λ (u : ℤ) (h : Float). placeBoulder (o .size) u (a .t) (a .x) (a .z) h (a .cells .now)) (back (o .oy) (p .y)) (c .before .before .before .before .before .boulder-hash .ensures ∙ ap₂ boulderHash (read w32 (c .before .before .before .before .before .before .before .before .along .ok) (c .before .before .before .before .before .before .before .before .along .ensures ∙ ap (λ (u : ℤ). u +ℤ pos (a .x)) (back (o .ox) (p .x)))) (read w32 (c .before .before .before .before .before .before .along2 .ok) (c .before .before .before .before .before .before .along2 .ensures ∙ ap (λ (u : ℤ). u +ℤ pos (a .z)) (back (o .oz) (p .z))))))
+returns c =
+    let c6 = c .before .before .before .before .before .before in
+    let c8 = c6 .before .before in
+    let c10 = c8 .before .before in
+    let c11 = c10 .before in
+    let s = c11 .before .before in
+    let a = s .args in
+    let o = a .o in
+    let p : Near o = s .pre .1 in
+    let e : insetIn 1 (o .size) (a .x) (a .z) ≡ true =
+    sym (c11 .inset .ensures)
+    ∙ c10 .if1 .taken in
+    rw e (c .before .before .boulder-at .ensures ∙ ap₂ (λ (u : ℤ) (h : Float). placeBoulder (o .size) u (a .t) (a .x) (a .z) h (a .cells .now)) (back (o .oy) (p .y)) (c .before .before .before .before .before .boulder-hash .ensures ∙ ap₂ boulderHash (read w32 (c8 .along .ok) (c8 .along .ensures ∙ ap (λ (u : ℤ). u +ℤ pos (a .x)) (back (o .ox) (p .x)))) (read w32 (c6 .along2 .ok) (c6 .along2 .ensures ∙ ap (λ (u : ℤ). u +ℤ pos (a .z)) (back (o .oz) (p .z))))))
 
 returns-2 : tie.Need-returns-2
 unfolding boulderColumn
-returns-2 c = let s = c .before .before .before in let a = s .args in let e : insetIn 1 (a .o .size) (a .x) (a .z) ≡ false = sym (c .before .inset .ensures) ∙ c .if1 .left in rw e
+returns-2 c =
+    let s = c .before .before .before in
+    let a = s .args in
+    let e : insetIn 1 (a .o .size) (a .x) (a .z) ≡ false = sym (c .before .inset .ensures) ∙ c .if1 .left in
+    rw e
 
 pub boulder-column-spec : {M : Type 1} → statement M
 boulder-column-spec =

@@ -29,7 +29,10 @@ hash2-requires c κs = search needs
 
 returns : tie.Need-returns
 unfolding boulderHash
-returns c = let s = c .before .before .before .before .before in c .hash2 .ensures ∙ ap₂ hash2₃₂ (read w32 (c .before .before .before .wrapping-add .ok) (c .before .before .before .wrapping-add .ensures ∙ ap (λ (u : ℤ). addW u (pos 555)) (read w32 (c .before .before .before .before .wrapping-mul .ok) (c .before .before .before .before .wrapping-mul .ensures ∙ ap (λ (u : ℤ). mulW u (pos 31)) (toZ-ofZ w32 (s .args .wx) (s .fits .wx)))))) (read w32 (c .before .wrapping-add2 .ok) (c .before .wrapping-add2 .ensures ∙ ap (λ (u : ℤ). addW u (pos 777)) (read w32 (c .before .before .wrapping-mul2 .ok) (c .before .before .wrapping-mul2 .ensures ∙ ap (λ (u : ℤ). mulW u (pos 37)) (toZ-ofZ w32 (s .args .wz) (s .fits .wz))))))
+returns c =
+    let s = c .before .before .before .before .before in
+    c .hash2 .ensures
+    ∙ ap₂ hash2₃₂ (read w32 (c .before .before .before .wrapping-add .ok) (c .before .before .before .wrapping-add .ensures ∙ ap (λ (u : ℤ). addW u (pos 555)) (read w32 (c .before .before .before .before .wrapping-mul .ok) (c .before .before .before .before .wrapping-mul .ensures ∙ ap (λ (u : ℤ). mulW u (pos 31)) (toZ-ofZ w32 (s .args .wx) (s .fits .wx)))))) (read w32 (c .before .wrapping-add2 .ok) (c .before .wrapping-add2 .ensures ∙ ap (λ (u : ℤ). addW u (pos 777)) (read w32 (c .before .before .wrapping-mul2 .ok) (c .before .before .wrapping-mul2 .ensures ∙ ap (λ (u : ℤ). mulW u (pos 37)) (toZ-ofZ w32 (s .args .wz) (s .fits .wz))))))
 
 pub boulder-hash-spec : {M : Type 1} → statement M
 boulder-hash-spec =

@@ -20,7 +20,9 @@ returns c = (floor-none (c .before .to-i32 .result) (c .before .to-i32 .ok) (c .
 
 returns-2 : tie.Need-returns-2
 unfolding wholePart
-returns-2 c = let q = floor-some (c .before .to-i32 .result) (c .before .to-i32 .ok) (c .if1 .left) in (q .0 ∙ ap rangeLength (c .before .to-i32 .ensures), q .1)
+returns-2 c =
+    let q = floor-some (c .before .to-i32 .result) (c .before .to-i32 .ok) (c .if1 .left) in
+    (q .0 ∙ ap rangeLength (c .before .to-i32 .ensures), q .1)
 
 pub whole-spec : {M : Type 1} → statement M
 whole-spec = tie.close (tie.spec to-i32-requires cast-result returns returns-2)

@@ -22,7 +22,11 @@ x-at-requires c κs = search needs
 
 returns : tie.Need-returns
 unfolding coordOf
-returns c = let s = c .before .before .before .before .before in let w = read w32 (c .before .before .along .ok) (c .before .before .along .ensures ∙ ap (λ (u : ℤ). u +ℤ pos (s .args .i)) (back (s .args .f .ox) (s .pre .0 .x))) in rw (lt-ltb (s .args .o) 11 (c .before .before .before .before .if1 .taken)) (c .x-at .ensures ∙ ap (xOf (s .args .o)) (c .before .of-i32 .ensures ∙ ap (ofInt binary32) w))
+returns c =
+    let s = c .before .before .before .before .before in
+    let w =
+    read w32 (c .before .before .along .ok) (c .before .before .along .ensures ∙ ap (λ (u : ℤ). u +ℤ pos (s .args .i)) (back (s .args .f .ox) (s .pre .0 .x))) in
+    rw (lt-ltb (s .args .o) 11 (c .before .before .before .before .if1 .taken)) (c .x-at .ensures ∙ ap (xOf (s .args .o)) (c .before .of-i32 .ensures ∙ ap (ofInt binary32) w))
 
 along-requires-2 : tie.Need-along-requires-2
 along-requires-2 c κs = search needs
@@ -35,7 +39,11 @@ y-at-requires c κs = search needs
 
 returns-2 : tie.Need-returns-2
 unfolding coordOf
-returns-2 c = let s = c .before .before .before .before .before .before in let w = read w32 (c .before .before .along2 .ok) (c .before .before .along2 .ensures ∙ ap (λ (u : ℤ). u +ℤ pos (s .args .i)) (back (s .args .f .oy) (s .pre .0 .y))) in rw (le-ltb (s .args .o) 11 (c .before .before .before .before .before .if1 .left), lt-ltb (s .args .o) 19 (c .before .before .before .before .if2 .taken)) (c .y-at .ensures ∙ ap (yOf _) (c .before .of-i322 .ensures ∙ ap (ofInt binary32) w))
+returns-2 c =
+    let s = c .before .before .before .before .before .before in
+    let w =
+    read w32 (c .before .before .along2 .ok) (c .before .before .along2 .ensures ∙ ap (λ (u : ℤ). u +ℤ pos (s .args .i)) (back (s .args .f .oy) (s .pre .0 .y))) in
+    rw (le-ltb (s .args .o) 11 (c .before .before .before .before .before .if1 .left), lt-ltb (s .args .o) 19 (c .before .before .before .before .if2 .taken)) (c .y-at .ensures ∙ ap (yOf _) (c .before .of-i322 .ensures ∙ ap (ofInt binary32) w))
 
 along-requires-3 : tie.Need-along-requires-3
 along-requires-3 c κs = search needs
@@ -48,7 +56,11 @@ z-at-requires c κs = search needs
 
 returns-3 : tie.Need-returns-3
 unfolding coordOf
-returns-3 c = let s = c .before .before .before .before .before .before in let w = read w32 (c .before .before .along3 .ok) (c .before .before .along3 .ensures ∙ ap (λ (u : ℤ). u +ℤ pos (s .args .i)) (back (s .args .f .oz) (s .pre .0 .z))) in rw (le-ltb (s .args .o) 11 (c .before .before .before .before .before .if1 .left), le-ltb (s .args .o) 19 (c .before .before .before .before .if2 .left)) (c .z-at .ensures ∙ ap (zOf _) (c .before .of-i323 .ensures ∙ ap (ofInt binary32) w))
+returns-3 c =
+    let s = c .before .before .before .before .before .before in
+    let w =
+    read w32 (c .before .before .along3 .ok) (c .before .before .along3 .ensures ∙ ap (λ (u : ℤ). u +ℤ pos (s .args .i)) (back (s .args .f .oz) (s .pre .0 .z))) in
+    rw (le-ltb (s .args .o) 11 (c .before .before .before .before .before .if1 .left), le-ltb (s .args .o) 19 (c .before .before .before .before .if2 .left)) (c .z-at .ensures ∙ ap (zOf _) (c .before .of-i323 .ensures ∙ ap (ofInt binary32) w))
 
 pub coord-spec : {M : Type 1} → statement M
 coord-spec =

@@ -14,7 +14,9 @@ use Rattle.cell_lines.proofs.below_level.Statement.{statement}
 use Rattle.cell_lines.proofs.below_level.Tie as tie
 
 local-y-requires : tie.Need-local-y-requires
-local-y-requires c κs = let h : c .args .level < 65536 = c .pre .1 in (subst (λ (u : ℤ). mag u ≤ 1000000) (sym (back (c .args .o) (c .pre .0))) (c .pre .0), omega arith)
+local-y-requires c κs =
+    let h : c .args .level < 65536 = c .pre .1 in
+    (subst (λ (u : ℤ). mag u ≤ 1000000) (sym (back (c .args .o) (c .pre .0))) (c .pre .0), omega arith)
 
 returns : tie.Need-returns
 unfolding belowLevel

@@ -19,10 +19,17 @@ loop-holds : tie.Need-loop-holds Inv-loop μ-loop
 loop-holds c = (omega arith, lay-none _ _ _ _ _)
 
 put-requires : tie.Need-put-requires Inv-loop μ-loop
-put-requires c κs = let a = c .before .before .before .before in record { most = a .pre .0 .most; all = ap length (c .before .before .loop .inv .1) ∙ lay-length _ _ _ _ _ _ ∙ a .pre .0 .all }
+put-requires c κs =
+    let a = c .before .before .before .before in
+    record { most = a .pre .0 .most; all = ap length (c .before .before .loop .inv .1) ∙ lay-length _ _ _ _ _ _ ∙ a .pre .0 .all }
 
 add-y : tie.Need-add-y Inv-loop μ-loop
-add-y c = let a = c .before .before .before .before .before .before .before in let t = c .before .before .before .before .before .loop .inv .0 in let p = a .pre .0 .most in let q = a .pre .1 in omega arith
+add-y c =
+    let a = c .before .before .before .before .before .before .before in
+    let t = c .before .before .before .before .before .loop .inv .0 in
+    let p = a .pre .0 .most in
+    let q = a .pre .1 in
+    omega arith
 
 loop-less : tie.Need-loop-less Inv-loop μ-loop
 loop-less c = omega (arith, c .before .before .before .before .loop-test .taken)
@@ -35,7 +42,11 @@ same-length : tie.Need-same-length Inv-loop μ-loop
 same-length c = ap length (c .before .loop .inv .1) ∙ lay-length _ _ _ _ _ _
 
 returns : tie.Need-returns Inv-loop μ-loop
-returns c = let l = c .before .loop in let a = c .before .before .before in let q : l .y ≡ a .args .h = (let t = l .inv .0 in let u = c .loop-test .left in omega arith) in l .inv .1 ∙ ap (λ (k : ℕ). layColumn (a .args .size) (a .args .x) (a .args .z) k (a .args .id) (a .args .cells .now)) q
+returns c =
+    let l = c .before .loop in
+    let a = c .before .before .before in
+    let q : l .y ≡ a .args .h = (let t = l .inv .0 in let u = c .loop-test .left in omega arith) in
+    l .inv .1 ∙ ap (λ (k : ℕ). layColumn (a .args .size) (a .args .x) (a .args .z) k (a .args .id) (a .args .cells .now)) q
 
 pub lay-column-spec : {M : Type 1} → statement M
 lay-column-spec =

@@ -20,15 +20,21 @@ returns-2 c = let e = sym (c .before .before .refuse-chunk .ensures) ∙ c .befo
 
 returns-3 : tie.Need-returns-3
 unfolding cellRefusal
-returns-3 c = let e = sym (c .before .before .before .refuse-chunk .ensures) ∙ c .before .before .if1 .left in sym (then-stop _ _ _ 7 e (out-y _ _ _ _ (c .before .if2 .left) (c .if3 .taken)))
+returns-3 c =
+    let e = sym (c .before .before .before .refuse-chunk .ensures) ∙ c .before .before .if1 .left in
+    sym (then-stop _ _ _ 7 e (out-y _ _ _ _ (c .before .if2 .left) (c .if3 .taken)))
 
 returns-4 : tie.Need-returns-4
 unfolding cellRefusal
-returns-4 c = let e = sym (c .before .before .before .before .refuse-chunk .ensures) ∙ c .before .before .before .if1 .left in sym (then-stop _ _ _ 7 e (out-z _ _ _ _ (c .before .before .if2 .left) (c .before .if3 .left) (c .if4 .taken)))
+returns-4 c =
+    let e = sym (c .before .before .before .before .refuse-chunk .ensures) ∙ c .before .before .before .if1 .left in
+    sym (then-stop _ _ _ 7 e (out-z _ _ _ _ (c .before .before .if2 .left) (c .before .if3 .left) (c .if4 .taken)))
 
 returns-5 : tie.Need-returns-5
 unfolding cellRefusal
-returns-5 c = let e = sym (c .before .before .before .before .refuse-chunk .ensures) ∙ c .before .before .before .if1 .left in sym (then-pass _ _ _ 7 e (in-all _ _ _ _ (c .before .before .if2 .left) (c .before .if3 .left) (c .if4 .left)))
+returns-5 c =
+    let e = sym (c .before .before .before .before .refuse-chunk .ensures) ∙ c .before .before .before .if1 .left in
+    sym (then-pass _ _ _ 7 e (in-all _ _ _ _ (c .before .before .if2 .left) (c .before .if3 .left) (c .if4 .left)))
 
 pub refuse-cell-spec : {M : Type 1} → statement M
 refuse-cell-spec =

@@ -11,7 +11,8 @@ use Rattle.chunk_border.proofs.copy_border.Statement.{statement}
 use Rattle.chunk_border.proofs.copy_border.Tie as tie
 
 abbrev Inv-loop : tie.InvT-loop
-Inv-loop cells size face border₀ k₀ border k = (k ≤ length border₀) × (length border ≡ length border₀) × (border ≡ tab k (λ (j : ℕ). getD cells (borderSource face size j) 0) ++ drop k border₀)
+Inv-loop cells size face border₀ k₀ border k =
+    (k ≤ length border₀) × (length border ≡ length border₀) × (border ≡ tab k (λ (j : ℕ). getD cells (borderSource face size j) 0) ++ drop k border₀)
 
 abbrev μ-loop : tie.MeasureT-loop
 μ-loop cells size face border₀ k₀ border k = length border - k
@@ -23,19 +24,45 @@ source-requires : tie.Need-source-requires Inv-loop μ-loop
 source-requires c κs = let s = c .before .before .before .before in let e = s .pre .1 in let l = c .before .loop .inv in (s .pre .0 .most, omega arith)
 
 mul-border : tie.Need-mul-border Inv-loop μ-loop
-mul-border c = let s = c .before .before .before .before .before in let e = s .pre .1 in let l = c .before .before .loop in let t = l .inv in let i = source-lt (s .args .face) (s .args .size) (l .k) (omega arith) in let m = cube-most _ (s .pre .0 .most) in let q = c .source .ensures in omega arith
+mul-border c =
+    let s = c .before .before .before .before .before in
+    let e = s .pre .1 in
+    let l = c .before .before .loop in
+    let t = l .inv in
+    let i = source-lt (s .args .face) (s .args .size) (l .k) (omega arith) in
+    let m = cube-most _ (s .pre .0 .most) in
+    let q = c .source .ensures in
+    omega arith
 
 shared-slice-read-border : tie.Need-shared-slice-read-border Inv-loop μ-loop
-shared-slice-read-border c = let s = c .before .before .before .before .before .before in let e = s .pre .1 in let l = c .before .before .before .loop in let t = l .inv in let i = source-lt (s .args .face) (s .args .size) (l .k) (omega arith) in let m = s .pre .0 .all in let q = c .before .source .ensures in omega arith
+shared-slice-read-border c =
+    let s = c .before .before .before .before .before .before in
+    let e = s .pre .1 in
+    let l = c .before .before .before .loop in
+    let t = l .inv in
+    let i = source-lt (s .args .face) (s .args .size) (l .k) (omega arith) in
+    let m = s .pre .0 .all in
+    let q = c .before .source .ensures in
+    omega arith
 
 mul-border-2 : tie.Need-mul-border-2 Inv-loop μ-loop
-mul-border-2 c = let s = c .before .before .before .before .before .before in let e = s .pre .1 in let l = c .before .before .before .loop .inv in let m = square-most _ (s .pre .0 .most) in omega arith
+mul-border-2 c =
+    let s = c .before .before .before .before .before .before in
+    let e = s .pre .1 in
+    let l = c .before .before .before .loop .inv in
+    let m = square-most _ (s .pre .0 .most) in
+    omega arith
 
 slice-write-border : tie.Need-slice-write-border Inv-loop μ-loop
 slice-write-border c = c .before .before .loop-test .taken
 
 add-k : tie.Need-add-k Inv-loop μ-loop
-add-k c = let s = c .before .before .before .before .before .before in let e = s .pre .1 in let l = c .before .before .before .loop .inv in let m = square-most _ (s .pre .0 .most) in omega arith
+add-k c =
+    let s = c .before .before .before .before .before .before in
+    let e = s .pre .1 in
+    let l = c .before .before .before .loop .inv in
+    let m = square-most _ (s .pre .0 .most) in
+    omega arith
 
 loop-less : tie.Need-loop-less Inv-loop μ-loop
 loop-less c = let l = c .before .before .before .loop in simp length-set (omega arith)

@@ -14,17 +14,24 @@ refuse-border-requires c κs = search needs
 
 returns : tie.Need-returns
 unfolding borderDoes
-returns c = let e = c .before .refuse-border .ensures in ap (λ (k : ℕ). bordered (refused k) (c .before .before .before .before .args .border .now)) e ∙ sym (is-refused _ _ _ (λ q. c .if1 .taken (e ∙ q)))
+returns c =
+    let e = c .before .refuse-border .ensures in
+    ap (λ (k : ℕ). bordered (refused k) (c .before .before .before .before .args .border .now)) e ∙ sym (is-refused _ _ _ (λ q. c .if1 .taken (e ∙ q)))
 
 copy-border-requires : tie.Need-copy-border-requires
-copy-border-requires c κs = let h = border-passed _ _ _ (sym (c .before .before .refuse-border .ensures) ∙ c .before .if1 .left) in let a = c .before .before .before .before .before .args in (cube-of (a .size) (a .cells .now) (h .chunk), h .new)
+copy-border-requires c κs =
+    let h = border-passed _ _ _ (sym (c .before .before .refuse-border .ensures) ∙ c .before .if1 .left) in
+    let a = c .before .before .before .before .before .args in
+    (cube-of (a .size) (a .cells .now) (h .chunk), h .new)
 
 same-length : tie.Need-same-length
 same-length c = search needs
 
 returns-2 : tie.Need-returns-2
 unfolding borderDoes
-returns-2 c = let e = sym (c .before .before .before .before .before .refuse-border .ensures) ∙ c .before .before .before .before .if1 .left in ap (λ (d : List ℕ). bordered (accepted []) d) (c .before .before .copy-border .ensures) ∙ sym (not-refused _ _ _ e)
+returns-2 c =
+    let e = sym (c .before .before .before .before .before .refuse-border .ensures) ∙ c .before .before .before .before .if1 .left in
+    ap (λ (d : List ℕ). bordered (accepted []) d) (c .before .before .copy-border .ensures) ∙ sym (not-refused _ _ _ e)
 
 pub extract-border-spec : {M : Type 1} → statement M
 extract-border-spec =

@@ -24,21 +24,38 @@ column-height-requires : tie.Need-column-height-requires
 column-height-requires c κs = search needs
 
 column-count-requires : tie.Need-column-count-requires
-column-count-requires c κs = let h = chunk-passed _ _ (sym (c .before .before .before .refuse-chunk .ensures) ∙ c .before .before .if1 .left) in let a = c .before .before .before .before .before .args in let m = height-most (a .size) (a .x) (a .z) (a .height) in let e = c .before .column-height .ensures in (cube-of (a .size) (a .cells .now) h, omega arith)
+column-count-requires c κs =
+    let h = chunk-passed _ _ (sym (c .before .before .before .refuse-chunk .ensures) ∙ c .before .before .if1 .left) in
+    let a = c .before .before .before .before .before .args in
+    let m = height-most (a .size) (a .x) (a .z) (a .height) in
+    let e = c .before .column-height .ensures in
+    (cube-of (a .size) (a .cells .now) h, omega arith)
 
 cast-after : tie.Need-cast-after
-cast-after c = let h = chunk-passed _ _ (sym (c .before .before .before .before .refuse-chunk .ensures) ∙ c .before .before .before .if1 .left) in let a = c .before .before .before .before .before .before .args in let m = height-most (a .size) (a .x) (a .z) (a .height) in let e = c .before .before .column-height .ensures in let k = h .most in omega arith
+cast-after c =
+    let h = chunk-passed _ _ (sym (c .before .before .before .before .refuse-chunk .ensures) ∙ c .before .before .before .if1 .left) in
+    let a = c .before .before .before .before .before .before .args in
+    let m = height-most (a .size) (a .x) (a .z) (a .height) in
+    let e = c .before .before .column-height .ensures in
+    let k = h .most in
+    omega arith
 
 non-air-requires : tie.Need-non-air-requires
 non-air-requires c κs = search needs
 
 mul-after : tie.Need-mul-after
 mul-after c = let h = chunk-passed _ _ (sym (c .before .before .before .before .before .refuse-chunk .ensures) ∙ c .before .before .before .before .if1 .left) in let a = c .before .before .before .before .before .before .before .args in let m = height-most (a .size) (a .x) (a .z) (a .height) in let e = c .before .before .before .column-height .ensures in let k = h .most in
-    let n = non-air-most (a .id) in let o = c .non-air .ensures in let p : c .before .before .before .column-height .result * c .non-air .result ≤ 64 = column-small _ _ (omega arith) (omega arith) in omega arith
+    let n = non-air-most (a .id) in
+    let o = c .non-air .ensures in
+    let p : c .before .before .before .column-height .result * c .non-air .result ≤ 64 = column-small _ _ (omega arith) (omega arith) in
+    omega arith
 
 refuse-count-requires : tie.Need-refuse-count-requires
 refuse-count-requires c κs = let h = chunk-passed _ _ (sym (c .before .before .before .before .before .refuse-chunk .ensures) ∙ c .before .before .before .before .if1 .left) in let a = c .before .before .before .before .before .before .before .args in let m = height-most (a .size) (a .x) (a .z) (a .height) in let e = c .before .before .before .column-height .ensures in let k = h .most in
-    let n = non-air-most (a .id) in let o = c .non-air .ensures in let p : c .before .before .before .column-height .result * c .non-air .result ≤ 64 = column-small _ _ (omega arith) (omega arith) in (h .most, omega arith)
+    let n = non-air-most (a .id) in
+    let o = c .non-air .ensures in
+    let p : c .before .before .before .column-height .result * c .non-air .result ≤ 64 = column-small _ _ (omega arith) (omega arith) in
+    (h .most, omega arith)
 
 same-length : tie.Need-same-length
 same-length c = search needs
@@ -46,16 +63,27 @@ same-length c = search needs
 returns-2 : tie.Need-returns-2
 unfolding fillDoes
 returns-2 c = let b = c .before .before .before .before .before in let e = sym (b .before .before .refuse-chunk .ensures) ∙ b .before .if1 .left in let h = chunk-passed _ _ e in let a = b .before .before .before .before .args in
-    let m = fill-moves (a .size) (a .x) (a .z) (a .height) (a .id) _ _ _ (a .cells .now) (h .all) (b .column-height .ensures) (c .before .before .before .column-count .ensures) (ap (λ (k : ℕ). b .column-height .result * k) (c .before .before .non-air .ensures)) in
+    let m =
+    fill-moves (a .size) (a .x) (a .z) (a .height) (a .id) _ _ _ (a .cells .now) (h .all) (b .column-height .ensures) (c .before .before .before .column-count .ensures) (ap (λ (k : ℕ). b .column-height .result * k) (c .before .before .non-air .ensures)) in
     edit-count _ _ _ [] _ _ _ _ e m _ (c .before .refuse-count .ensures) (c .if2 .taken)
 
 lay-column-requires : tie.Need-lay-column-requires
-lay-column-requires c κs = let h = chunk-passed _ _ (sym (c .before .before .before .before .before .before .before .before .refuse-chunk .ensures) ∙ c .before .before .before .before .before .before .before .if1 .left) in let a = c .before .before .before .before .before .before .before .before .before .before .args in let m = height-most (a .size) (a .x) (a .z) (a .height) in let e = c .before .before .before .before .before .before .column-height .ensures in (cube-of (a .size) (a .cells .now) h, omega arith)
+lay-column-requires c κs =
+    let h =
+    chunk-passed _ _ (sym (c .before .before .before .before .before .before .before .before .refuse-chunk .ensures) ∙ c .before .before .before .before .before .before .before .if1 .left) in
+    let a = c .before .before .before .before .before .before .before .before .before .before .args in
+    let m = height-most (a .size) (a .x) (a .z) (a .height) in
+    let e = c .before .before .before .before .before .before .column-height .ensures in
+    (cube-of (a .size) (a .cells .now) h, omega arith)
 
 add-t18 : tie.Need-add-t18
 add-t18 c = let b = c .before .before .before .before .before .before .before .before .before in let h = chunk-passed _ _ (sym (b .before .before .refuse-chunk .ensures) ∙ b .before .if1 .left) in let a = b .before .before .before .before .args in let m = height-most (a .size) (a .x) (a .z) (a .height) in let e = b .column-height .ensures in let k = h .most in let l = cube-most _ (h .most) in
-    let n = non-air-most (a .id) in let o = c .before .before .before .before .before .before .non-air .ensures in let p : b .column-height .result * c .before .before .before .before .before .before .non-air .result ≤ 64 = column-small _ _ (omega arith) (omega arith) in
-    let q = count-passed _ _ _ _ (sym (c .before .before .before .before .before .refuse-count .ensures) ∙ c .before .before .before .before .if2 .left) in let r = q .held in omega arith
+    let n = non-air-most (a .id) in
+    let o = c .before .before .before .before .before .before .non-air .ensures in
+    let p : b .column-height .result * c .before .before .before .before .before .before .non-air .result ≤ 64 = column-small _ _ (omega arith) (omega arith) in
+    let q = count-passed _ _ _ _ (sym (c .before .before .before .before .before .refuse-count .ensures) ∙ c .before .before .before .before .if2 .left) in
+    let r = q .held in
+    omega arith
 
 sub-t17 : tie.Need-sub-t17
 sub-t17 c = count-passed _ _ _ _ (sym (c .before .before .before .before .before .refuse-count .ensures) ∙ c .before .before .before .before .if2 .left) .low
@@ -67,7 +95,8 @@ returns-3 : tie.Need-returns-3
 unfolding fillDoes
 returns-3 c = let b = c .before .before .before .before .before .before .before .before .before in let e = sym (b .before .before .refuse-chunk .ensures) ∙ b .before .if1 .left in let h = chunk-passed _ _ e in let a = b .before .before .before .before .args in
     let v = c .before .before .before .before .before .before .non-air in let n = c .before .before .before .before .before .before .before .column-count in
-    let m = fill-moves (a .size) (a .x) (a .z) (a .height) (a .id) _ _ _ (a .cells .now) (h .all) (b .column-height .ensures) (n .ensures) (ap (λ (k : ℕ). b .column-height .result * k) (v .ensures)) in
+    let m =
+    fill-moves (a .size) (a .x) (a .z) (a .height) (a .id) _ _ _ (a .cells .now) (h .all) (b .column-height .ensures) (n .ensures) (ap (λ (k : ℕ). b .column-height .result * k) (v .ensures)) in
     ap (λ (d : List ℕ). outcome (accepted ((a .count + b .column-height .result * v .result - n .result) ∷ [])) d) (fill-lays (a .size) (a .x) (a .z) (a .height) (a .id) _ (a .cells .now) _ (b .column-height .ensures) (c .before .before .lay-column .ensures))
     ∙ edit-done _ _ _ [] _ _ _ _ e m _ (c .before .before .before .before .before .refuse-count .ensures) (c .before .before .before .before .if2 .left)
 

@@ -17,7 +17,9 @@ refuse-replace-requires c κs = search needs
 
 returns : tie.Need-returns
 unfolding replaceDoes
-returns c = let e = c .before .refuse-replace .ensures in ap (λ (k : ℕ). outcome (refused k) (c .before .before .before .before .args .cells .now)) e ∙ sym (is-refused _ _ _ (λ q. c .if1 .taken (e ∙ q)))
+returns c =
+    let e = c .before .refuse-replace .ensures in
+    ap (λ (k : ℕ). outcome (refused k) (c .before .before .before .before .args .cells .now)) e ∙ sym (is-refused _ _ _ (λ q. c .if1 .taken (e ∙ q)))
 
 copy-requires : tie.Need-copy-requires
 copy-requires c κs = let h = replace-passed _ _ _ (sym (c .before .before .refuse-replace .ensures) ∙ c .before .if1 .left) in h .chunk .all ∙ sym (h .new)
@@ -26,14 +28,25 @@ count-non-air-requires : tie.Need-count-non-air-requires
 count-non-air-requires c κs = search needs
 
 cast-t12 : tie.Need-cast-t12
-cast-t12 c = let k = c .count-non-air .ensures in let h = replace-passed _ _ _ (sym (c .before .before .before .before .before .before .refuse-replace .ensures) ∙ c .before .before .before .before .before .if1 .left) in let m = chunk-most _ _ (h .chunk) in let n = count-most (c .before .before .before .before .before .before .before .before .before .args .blocks .now) in let a = h .chunk .all in let b = h .new in omega arith
+cast-t12 c =
+    let k = c .count-non-air .ensures in
+    let h =
+    replace-passed _ _ _ (sym (c .before .before .before .before .before .before .refuse-replace .ensures) ∙ c .before .before .before .before .before .if1 .left) in
+    let m = chunk-most _ _ (h .chunk) in
+    let n = count-most (c .before .before .before .before .before .before .before .before .before .args .blocks .now) in
+    let a = h .chunk .all in
+    let b = h .new in
+    omega arith
 
 same-length : tie.Need-same-length
 same-length c = search needs
 
 returns-2 : tie.Need-returns-2
 unfolding replaceDoes
-returns-2 c = let e = sym (c .before .before .before .before .before .before .refuse-replace .ensures) ∙ c .before .before .before .before .before .if1 .left in ap₂ (λ (k : ℕ). λ (d : List ℕ). outcome (accepted (k ∷ [])) d) (c .count-non-air .ensures) (c .before .before .before .copy .ensures) ∙ sym (not-refused _ _ _ e)
+returns-2 c =
+    let e = sym (c .before .before .before .before .before .before .refuse-replace .ensures) ∙ c .before .before .before .before .before .if1 .left in
+    ap₂ (λ (k : ℕ). λ (d : List ℕ). outcome (accepted (k ∷ [])) d) (c .count-non-air .ensures) (c .before .before .before .copy .ensures)
+    ∙ sym (not-refused _ _ _ e)
 
 pub replace-blocks-spec : {M : Type 1} → statement M
 replace-blocks-spec =

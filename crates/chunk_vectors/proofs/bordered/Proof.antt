@@ -18,7 +18,8 @@ array-borrow-prefix-border c = search needs
 
 -- src/main.rt:142:27
 slice-aggregate-extract : tie.Need-slice-aggregate-extract
-slice-aggregate-extract c = fits (c .before .before .before .before .args .q .b) 262144 (c .before .before .room .result) (c .before .before .room .ensures) (c .before .if1 .taken)
+slice-aggregate-extract c =
+    fits (c .before .before .before .before .args .q .b) 262144 (c .before .before .room .result) (c .before .before .room .ensures) (c .before .if1 .taken)
 
 -- src/main.rt:142:9
 extract-requires : tie.Need-extract-requires

@@ -31,4 +31,5 @@ returns-2 : tie.Need-returns-2
 returns-2 c = search needs
 
 pub make-batch-spec : {M : Type 1} → statement M
-make-batch-spec = tie.close (tie.spec room-requires element-copy-out-index index-requires returns array-borrow-prefix-cells slice-aggregate-batch batch-requires returns-2)
+make-batch-spec =
+    tie.close (tie.spec room-requires element-copy-out-index index-requires returns array-borrow-prefix-cells slice-aggregate-batch batch-requires returns-2)

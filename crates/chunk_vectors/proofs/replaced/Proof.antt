@@ -18,7 +18,8 @@ array-share-prefix-blocks c = search needs
 
 -- src/main.rt:100:27
 slice-aggregate-replace : tie.Need-slice-aggregate-replace
-slice-aggregate-replace c = fits (c .before .before .before .before .before .args .q .a) 262144 (c .before .before .before .room .result) (c .before .before .before .room .ensures) (c .before .before .if1 .taken)
+slice-aggregate-replace c =
+    fits (c .before .before .before .before .before .args .q .a) 262144 (c .before .before .before .room .result) (c .before .before .before .room .ensures) (c .before .before .if1 .taken)
 
 -- src/main.rt:100:9
 replace-requires : tie.Need-replace-requires

@@ -23,7 +23,8 @@ array-borrow-prefix-ids c = search needs
 
 -- src/main.rt:179:30
 slice-aggregate-listed : tie.Need-slice-aggregate-listed
-slice-aggregate-listed c = fits (c .before .before .before .before .before .before .args .q .a) 16 (c .before .before .before .before .ids-room .result) (c .before .before .before .before .ids-room .ensures) (c .before .before .if1 .taken)
+slice-aggregate-listed c =
+    fits (c .before .before .before .before .before .before .args .q .a) 16 (c .before .before .before .before .ids-room .result) (c .before .before .before .before .ids-room .ensures) (c .before .before .if1 .taken)
 
 -- src/main.rt:179:45
 array-borrow-prefix-counts : tie.Need-array-borrow-prefix-counts
@@ -31,7 +32,8 @@ array-borrow-prefix-counts c = search needs
 
 -- src/main.rt:179:45
 slice-aggregate-listed-2 : tie.Need-slice-aggregate-listed-2
-slice-aggregate-listed-2 c = fits (c .before .before .before .before .before .before .before .args .q .b) 16 (c .before .before .before .before .counts-room .result) (c .before .before .before .before .counts-room .ensures) (c .before .before .if2 .taken)
+slice-aggregate-listed-2 c =
+    fits (c .before .before .before .before .before .before .before .args .q .b) 16 (c .before .before .before .before .counts-room .result) (c .before .before .before .before .counts-room .ensures) (c .before .before .if2 .taken)
 
 -- src/main.rt:179:13
 listed-requires : tie.Need-listed-requires

@@ -14,7 +14,8 @@ hill-boost-requires c κs = search needs
 
 returns : tie.Need-returns
 unfolding heightsOf nearest ofBits neg
-returns c = simp (c .before .before .before .before .before .before .before .before .before .before .hill-boost .ensures, c .before .before .before .before .before .before .before .before .before .before .before .cold-boost .ensures)
+returns c =
+    simp (c .before .before .before .before .before .before .before .before .before .before .hill-boost .ensures, c .before .before .before .before .before .before .before .before .before .before .before .cold-boost .ensures)
 
 pub heights-spec : {M : Type 1} → statement M
 heights-spec = tie.close (tie.spec cold-boost-requires hill-boost-requires returns)

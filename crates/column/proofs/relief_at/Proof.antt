@@ -32,7 +32,8 @@ offset-fbm-requires-3 c κs = search needs
 
 returns : tie.Need-returns
 unfolding reliefOf nearest ofBits neg
-returns c = simp (c .offset-fbm3 .ensures, c .before .offset-fbm2 .ensures, c .before .before .plateau .ensures, c .before .before .before .offset-fbm .ensures, c .before .before .before .before .ridges .ensures, c .before .before .before .before .before .scaled-fbm2 .ensures, c .before .before .before .before .before .before .scaled-fbm .ensures, c .before .before .before .before .before .before .before .continent .ensures)
+returns c =
+    simp (c .offset-fbm3 .ensures, c .before .offset-fbm2 .ensures, c .before .before .plateau .ensures, c .before .before .before .offset-fbm .ensures, c .before .before .before .before .ridges .ensures, c .before .before .before .before .before .scaled-fbm2 .ensures, c .before .before .before .before .before .before .scaled-fbm .ensures, c .before .before .before .before .before .before .before .continent .ensures)
 
 pub relief-at-spec : {M : Type 1} → statement M
 relief-at-spec =

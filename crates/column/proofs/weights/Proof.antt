@@ -23,7 +23,8 @@ max-requires c κs = search needs
 
 returns : tie.Need-returns
 unfolding weightsOf desertWeight₃₂ mountainWeight₃₂ forestWeight₃₂ plainsWeight₃₂ nearest ofBits neg
-returns c = simp (c .max .ensures, c .before .smooth-ramp4 .ensures, c .before .before .smooth-ramp3 .ensures, c .before .before .before .before .smooth-ramp2 .ensures, c .before .before .before .before .before .before .smooth-ramp .ensures)
+returns c =
+    simp (c .max .ensures, c .before .smooth-ramp4 .ensures, c .before .before .smooth-ramp3 .ensures, c .before .before .before .before .smooth-ramp2 .ensures, c .before .before .before .before .before .before .smooth-ramp .ensures)
 
 pub weights-spec : {M : Type 1} → statement M
 weights-spec =

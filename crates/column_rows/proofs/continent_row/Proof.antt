@@ -52,13 +52,18 @@ same-length c = search needs
 returns : tie.Need-returns
 unfolding placesFbm continentRow continent₃₂ scaledFbm₃₂ warpedX warpedZ offsetRow nearest ofBits neg
 returns c =
-    let s = c .before .before .before .before .before .before .before .before .before .before .before .before .before .before .before .before .before .before .before .before .before .before in
+    let c7 = c .before .before .before .before .before .before .before in
+    let c10 = c7 .before .before .before in
+    let c13 = c10 .before .before .before in
+    let c16 = c13 .before .before .before in
+    let c22 = c16 .before .before .before .before .before .before in
+    let s = c22 in
     let d = s .pre .5 in
     let r = c .before .before .fbm-places .ensures in
-    let wx = c .before .before .before .before .before .before .before .before .before .before .warp-xs .ensures in
-    let wz = c .before .before .before .before .before .before .before .warp-zs .ensures in
-    let ox = warp-x-row (s .args .n) (s .args .xs .now) (s .args .floors .now) (s .args .eases .now) d (s .args .z) _ (c .before .before .before .before .before .before .before .before .before .before .before .before .before .before .before .before .fbm-row .ensures) in
-    let oz = warp-z-row (s .args .n) (s .args .xs .now) (s .args .floors .now) (s .args .eases .now) d (s .args .z) _ (c .before .before .before .before .before .before .before .before .before .before .before .before .before .fbm-row2 .ensures) in
+    let wx = c10 .warp-xs .ensures in
+    let wz = c7 .warp-zs .ensures in
+    let ox = warp-x-row (s .args .n) (s .args .xs .now) (s .args .floors .now) (s .args .eases .now) d (s .args .z) _ (c16 .fbm-row .ensures) in
+    let oz = warp-z-row (s .args .n) (s .args .xs .now) (s .args .floors .now) (s .args .eases .now) d (s .args .z) _ (c13 .fbm-row2 .ensures) in
     record {
       long = r .long;
       holds = λ i h.

@@ -27,10 +27,11 @@ same-length-3 c = search needs
 returns : tie.Need-returns
 unfolding nearest ofBits neg
 returns c =
-    let s = c .before .before .before .before .before .before .before .before .before .before .before .before .before .before .before .before .before .before in
+    let c10 = c .before .before .before .before .before .before .before .before .before .before in
+    let s = c10 .before .before .before .before .before .before .before .before in
     let d = s .pre .7 in
     record {
-      large = c .before .before .before .before .before .before .before .before .before .before .continent-row .ensures;
+      large = c10 .continent-row .ensures;
       fine = detail-row (s .args .n) (s .args .xs .now) (s .args .floors .now) (s .args .eases .now) d (s .args .z) _ (c .before .before .before .before .before .before .fbm-row .ensures);
       finest = micro-row (s .args .n) (s .args .xs .now) (s .args .floors .now) (s .args .eases .now) d (s .args .z) _ (c .before .before .fbm-row2 .ensures);
     }

@@ -28,10 +28,11 @@ same-length-3 c = search needs
 returns : tie.Need-returns
 unfolding nearest ofBits neg
 returns c =
-    let s = c .before .before .before .before .before .before .before .before .before .before .before .before .before .before .before .before .before in
+    let c10 = c .before .before .before .before .before .before .before .before .before .before in
+    let s = c10 .before .before .before .before .before .before .before in
     record {
       is = λ (xs : List Float) d. record {
-        stepped = steps-row (s .args .n) xs (s .args .floors .now) (s .args .eases .now) d (s .args .z) _ (c .before .before .before .before .before .before .before .before .before .before .fbm-row .ensures);
+        stepped = steps-row (s .args .n) xs (s .args .floors .now) (s .args .eases .now) d (s .args .z) _ (c10 .fbm-row .ensures);
         dunes = dune-row (s .args .n) xs (s .args .floors .now) (s .args .eases .now) d (s .args .z) _ (c .before .before .before .before .before .before .fbm-row2 .ensures);
         hills = hill-row (s .args .n) xs (s .args .floors .now) (s .args .eases .now) d (s .args .z) _ (c .before .before .fbm-row3 .ensures);
       };

@@ -56,7 +56,10 @@ same-length : tie.Need-same-length Inv-loop μ-loop
 same-length c = c .before .loop .inv .1 .same
 
 returns : tie.Need-returns Inv-loop μ-loop
-returns c = let s = c .before .before in let l = c .before .loop in end (warpedX (s .args .xs .now) (s .args .vals .now)) (s .args .vals .now) (l .vals) (l .i) (s .args .n) (l .inv .1) (c .loop-test .left) (s .pre .2)
+returns c =
+    let s = c .before .before in
+    let l = c .before .loop in
+    end (warpedX (s .args .xs .now) (s .args .vals .now)) (s .args .vals .now) (l .vals) (l .i) (s .args .n) (l .inv .1) (c .loop-test .left) (s .pre .2)
 
 pub warp-xs-spec : {M : Type 1} → statement M
 warp-xs-spec =

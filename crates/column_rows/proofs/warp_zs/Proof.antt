@@ -49,7 +49,10 @@ same-length : tie.Need-same-length Inv-loop μ-loop
 same-length c = c .before .loop .inv .1 .same
 
 returns : tie.Need-returns Inv-loop μ-loop
-returns c = let s = c .before .before in let l = c .before .loop in end (warpedZ (s .args .z) (s .args .vals .now)) (s .args .vals .now) (l .vals) (l .i) (s .args .n) (l .inv .1) (c .loop-test .left) (s .pre .1)
+returns c =
+    let s = c .before .before in
+    let l = c .before .loop in
+    end (warpedZ (s .args .z) (s .args .vals .now)) (s .args .vals .now) (l .vals) (l .i) (s .args .n) (l .inv .1) (c .loop-test .left) (s .pre .1)
 
 pub warp-zs-spec : {M : Type 1} → statement M
 warp-zs-spec =

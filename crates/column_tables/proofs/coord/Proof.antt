@@ -19,14 +19,16 @@ relief-x-requires c κs = search needs
 
 returns-2 : tie.Need-returns-2
 unfolding coordOf
-returns-2 c = rw (le-ltb (c .before .before .before .args .o) 14 (c .before .before .if1 .left), lt-ltb (c .before .before .before .args .o) 27 (c .before .if2 .taken)) (c .relief-x .ensures)
+returns-2 c =
+    rw (le-ltb (c .before .before .before .args .o) 14 (c .before .before .if1 .left), lt-ltb (c .before .before .before .args .o) 27 (c .before .if2 .taken)) (c .relief-x .ensures)
 
 lowland-x-requires : tie.Need-lowland-x-requires
 lowland-x-requires c κs = search needs
 
 returns-3 : tie.Need-returns-3
 unfolding coordOf
-returns-3 c = rw (le-ltb (c .before .before .before .args .o) 14 (c .before .before .if1 .left), le-ltb (c .before .before .before .args .o) 27 (c .before .if2 .left)) (c .lowland-x .ensures)
+returns-3 c =
+    rw (le-ltb (c .before .before .before .args .o) 14 (c .before .before .if1 .left), le-ltb (c .before .before .before .args .o) 27 (c .before .if2 .left)) (c .lowland-x .ensures)
 
 pub coord-spec : {M : Type 1} → statement M
 coord-spec = tie.close (tie.spec climate-x-requires returns relief-x-requires returns-2 lowland-x-requires returns-3)

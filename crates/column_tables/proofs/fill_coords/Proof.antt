@@ -49,7 +49,10 @@ same-length : tie.Need-same-length Inv-loop μ-loop
 same-length c = c .before .loop .inv .1 .same
 
 returns : tie.Need-returns Inv-loop μ-loop
-returns c = let s = c .before .before .before .before in let l = c .before .loop in end (coordsOf (s .args .xs .now) (s .args .o)) (s .args .ts .now) (l .ts) (l .i) (s .args .n) (l .inv .1) (c .loop-test .left) (s .pre .2)
+returns c =
+    let s = c .before .before .before .before in
+    let l = c .before .loop in
+    end (coordsOf (s .args .xs .now) (s .args .o)) (s .args .ts .now) (l .ts) (l .i) (s .args .n) (l .inv .1) (c .loop-test .left) (s .pre .2)
 
 pub fill-coords-spec : {M : Type 1} → statement M
 fill-coords-spec =

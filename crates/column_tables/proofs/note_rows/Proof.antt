@@ -9,19 +9,26 @@ use Rattle.column_tables.proofs.note_rows.Statement.{statement}
 use Rattle.column_tables.proofs.note_rows.Tie as tie
 
 abbrev Inv-loop : tie.InvT-loop
-Inv-loop xs n floors₀ eases₀ ts₀ o₀ floors eases ts o = (o ≤ 36) × (length ts ≡ 64) × (length floors ≡ length floors₀) × (length eases ≡ length eases₀) × Noted n o (coordsOf xs) floors eases
+Inv-loop xs n floors₀ eases₀ ts₀ o₀ floors eases ts o =
+    (o ≤ 36) × (length ts ≡ 64) × (length floors ≡ length floors₀) × (length eases ≡ length eases₀) × Noted n o (coordsOf xs) floors eases
 
 abbrev μ-loop : tie.MeasureT-loop
 μ-loop xs n floors₀ eases₀ ts₀ o₀ floors eases ts o = 36 - o
 
 loop-holds : tie.Need-loop-holds Inv-loop μ-loop
-loop-holds c = let s = c .before .before .before in (omega arith, refl, refl, refl, noted-none (s .args .n) (coordsOf (s .args .xs .now)) (s .args .floors .now) (s .args .eases .now))
+loop-holds c =
+    let s = c .before .before .before in
+    (omega arith, refl, refl, refl, noted-none (s .args .n) (coordsOf (s .args .xs .now)) (s .args .floors .now) (s .args .eases .now))
 
 slice-aggregate-fill-coords : tie.Need-slice-aggregate-fill-coords Inv-loop μ-loop
 slice-aggregate-fill-coords c = sym (c .before .before .loop .inv .1)
 
 fill-coords-requires : tie.Need-fill-coords-requires Inv-loop μ-loop
-fill-coords-requires c κs = let p = c .before .before .before .before .before .before .pre in let l = c .before .before .loop .inv .1 in let q = p .0 in (q, p .1, omega arith)
+fill-coords-requires c κs =
+    let p = c .before .before .before .before .before .before .pre in
+    let l = c .before .before .loop .inv .1 in
+    let q = p .0 in
+    (q, p .1, omega arith)
 
 slice-aggregate-note-octave : tie.Need-slice-aggregate-note-octave Inv-loop μ-loop
 slice-aggregate-note-octave c = sym (c .before .before .fill-coords .kept .1 .1 .1 .0 ∙ c .before .before .before .before .before .loop .inv .1)
@@ -42,10 +49,16 @@ note-octave-requires c κs =
     (n, omega arith, c .before .before .before .before .fill-coords .ensures .long, omega arith, omega arith)
 
 add-o : tie.Need-add-o Inv-loop μ-loop
-add-o c = let t : c .before .before .before .before .before .before .before .before .before .before .before .before .loop .o < 36 = c .before .before .before .before .before .before .before .before .before .before .before .loop-test .taken in omega arith
+add-o c =
+    let t : c .before .before .before .before .before .before .before .before .before .before .before .before .loop .o < 36 =
+    c .before .before .before .before .before .before .before .before .before .before .before .loop-test .taken in
+    omega arith
 
 loop-less : tie.Need-loop-less Inv-loop μ-loop
-loop-less c = let t : c .before .before .before .before .before .before .before .before .before .before .before .before .loop .o < 36 = c .before .before .before .before .before .before .before .before .before .before .before .loop-test .taken in omega arith
+loop-less c =
+    let t : c .before .before .before .before .before .before .before .before .before .before .before .before .loop .o < 36 =
+    c .before .before .before .before .before .before .before .before .before .before .before .loop-test .taken in
+    omega arith
 
 loop-again : tie.Need-loop-again Inv-loop μ-loop
 loop-again c =

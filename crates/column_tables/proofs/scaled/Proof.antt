@@ -22,7 +22,9 @@ returns-3 c = sym (ap (λ (k : ℕ). scaledBy k (c .before .before .before .args
 
 returns-4 : tie.Need-returns-4
 unfolding scaledBy nearest ofBits
-returns-4 c = let k = c .before .before .before .args .k in rw (ne-eqb k 0 (c .before .before .if1 .left), ne-eqb k 1 (c .before .if2 .left), ne-eqb k 2 (c .if3 .left))
+returns-4 c =
+    let k = c .before .before .before .args .k in
+    rw (ne-eqb k 0 (c .before .before .if1 .left), ne-eqb k 1 (c .before .if2 .left), ne-eqb k 2 (c .if3 .left))
 
 pub scaled-spec : {M : Type 1} → statement M
 scaled-spec = tie.close (tie.spec returns returns-2 returns-3 returns-4)

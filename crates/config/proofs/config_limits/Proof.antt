@@ -23,19 +23,23 @@ cast-t6 : tie.Need-cast-t6
 cast-t6 c = widen-fits (c .before .before .before .before .args .config .«sea_level») (record { sfits = (let g = c .struct-told .given in omega arith) })
 
 cast-t7 : tie.Need-cast-t7
-cast-t7 c = widen-fits (c .before .before .before .before .before .before .args .config .«world_height_blocks») (record { sfits = (let g = c .struct-told2 .given in omega arith) })
+cast-t7 c =
+    widen-fits (c .before .before .before .before .before .before .args .config .«world_height_blocks») (record { sfits = (let g = c .struct-told2 .given in omega arith) })
 
 cast-t8 : tie.Need-cast-t8
 cast-t8 c = search needs
 
 cast-t9 : tie.Need-cast-t9
-cast-t9 c = widen-fits (c .before .before .before .before .before .before .before .before .args .pos .cx) (record { sfits = (let g = c .struct-told3 .given in omega arith) })
+cast-t9 c =
+    widen-fits (c .before .before .before .before .before .before .before .before .args .pos .cx) (record { sfits = (let g = c .struct-told3 .given in omega arith) })
 
 cast-t10 : tie.Need-cast-t10
-cast-t10 c = widen-fits (c .before .before .before .before .before .before .before .before .before .before .args .pos .cy) (record { sfits = (let g = c .struct-told4 .given in omega arith) })
+cast-t10 c =
+    widen-fits (c .before .before .before .before .before .before .before .before .before .before .args .pos .cy) (record { sfits = (let g = c .struct-told4 .given in omega arith) })
 
 cast-t11 : tie.Need-cast-t11
-cast-t11 c = widen-fits (c .before .before .before .before .before .before .before .before .before .before .before .before .args .pos .cz) (record { sfits = (let g = c .struct-told5 .given in omega arith) })
+cast-t11 c =
+    widen-fits (c .before .before .before .before .before .before .before .before .before .before .before .before .args .pos .cz) (record { sfits = (let g = c .struct-told5 .given in omega arith) })
 
 limits-requires : tie.Need-limits-requires
 limits-requires c κs =
@@ -49,8 +53,10 @@ returns-2 : tie.Need-returns-2
 unfolding configHeader
 returns-2 c =
     let s = c .before .before .before .before .before .before .before .before .before .before .before .before .before in
-    let fs : SFits w32 (s .args .config .«sea_level») = record { sfits = (let q = c .before .before .before .before .before .before .before .before .before .struct-told .given in omega arith) } in
-    let fh : SFits w32 (s .args .config .«world_height_blocks») = record { sfits = (let q = c .before .before .before .before .before .before .before .struct-told2 .given in omega arith) } in
+    let fs : SFits w32 (s .args .config .«sea_level») =
+    record { sfits = (let q = c .before .before .before .before .before .before .before .before .before .struct-told .given in omega arith) } in
+    let fh : SFits w32 (s .args .config .«world_height_blocks») =
+    record { sfits = (let q = c .before .before .before .before .before .before .before .struct-told2 .given in omega arith) } in
     let fx : SFits w32 (s .args .pos .cx) = record { sfits = (let q = c .before .before .before .before .before .struct-told3 .given in omega arith) } in
     let fy : SFits w32 (s .args .pos .cy) = record { sfits = (let q = c .before .before .before .struct-told4 .given in omega arith) } in
     let fz : SFits w32 (s .args .pos .cz) = record { sfits = (let q = c .before .struct-told5 .given in omega arith) } in

@@ -30,8 +30,10 @@ returns c =
     let fx : SFits w64 (h .cx) = record { sfits = (let g = n .cx in omega arith) } in
     let fy : SFits w64 (h .cy) = record { sfits = (let g = n .cy in omega arith) } in
     let fz : SFits w64 (h .cz) = record { sfits = (let g = n .cz in omega arith) } in
-    let x : c .before .before .before .before .place-fits .result ≡ placeOk (h .«chunk_size») (h .cx) = c .before .before .before .before .place-fits .ensures ∙ ap₂ placeOk size (toZ-ofZ w64 (h .cx) fx) in
-    let y : c .before .before .place-fits2 .result ≡ placeOk (h .«chunk_size») (h .cy) = c .before .before .place-fits2 .ensures ∙ ap₂ placeOk size (toZ-ofZ w64 (h .cy) fy) in
+    let x : c .before .before .before .before .place-fits .result ≡ placeOk (h .«chunk_size») (h .cx) =
+    c .before .before .before .before .place-fits .ensures ∙ ap₂ placeOk size (toZ-ofZ w64 (h .cx) fx) in
+    let y : c .before .before .place-fits2 .result ≡ placeOk (h .«chunk_size») (h .cy) =
+    c .before .before .place-fits2 .ensures ∙ ap₂ placeOk size (toZ-ofZ w64 (h .cy) fy) in
     let z : c .place-fits3 .result ≡ placeOk (h .«chunk_size») (h .cz) = c .place-fits3 .ensures ∙ ap₂ placeOk size (toZ-ofZ w64 (h .cz) fz) in
     rw (x, y, z)
 

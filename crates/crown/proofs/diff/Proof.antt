@@ -18,10 +18,16 @@ cast-result-2 : tie.Need-cast-result-2
 cast-result-2 c = search needs
 
 sub-result : tie.Need-sub-result
-sub-result c = let s = c in let a = s .args in subst (SFits w32) (sym (diff-read (a .i) (a .r) (s .pre .0) (s .pre .1))) (diff-fits (a .i) (a .r) (s .pre .0) (s .pre .1))
+sub-result c =
+    let s = c in
+    let a = s .args in
+    subst (SFits w32) (sym (diff-read (a .i) (a .r) (s .pre .0) (s .pre .1))) (diff-fits (a .i) (a .r) (s .pre .0) (s .pre .1))
 
 returns : tie.Need-returns
-returns c = let s = c in let a = s .args in ap again (diff-read (a .i) (a .r) (s .pre .0) (s .pre .1)) ∙ toZ-ofZ w32 (pos (a .i) -ℤ pos (a .r)) (diff-fits (a .i) (a .r) (s .pre .0) (s .pre .1))
+returns c =
+    let s = c in
+    let a = s .args in
+    ap again (diff-read (a .i) (a .r) (s .pre .0) (s .pre .1)) ∙ toZ-ofZ w32 (pos (a .i) -ℤ pos (a .r)) (diff-fits (a .i) (a .r) (s .pre .0) (s .pre .1))
 
 pub diff-spec : {M : Type 1} → statement M
 diff-spec = tie.close (tie.spec cast-result cast-result-2 sub-result returns)

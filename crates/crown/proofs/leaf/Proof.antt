@@ -28,11 +28,23 @@ same-length c = search needs
 
 returns : tie.Need-returns
 unfolding leafStep
-returns c = let s = c .before .before .before .before .before .before .before .before .before in let a = s .args in let e : hasLeaf (a .wx) (a .wz) (a .r) (a .l) (a .i) (a .m) ≡ true = sym (c .before .before .before .before .before .before .before .leafy .ensures ∙ ap₂ (λ (u v : ℤ). hasLeaf u v (a .r) (a .l) (a .i) (a .m)) (toZ-ofZ w32 (a .wx) (s .fits .wx)) (toZ-ofZ w32 (a .wz) (s .fits .wz))) ∙ c .before .before .before .before .before .before .if1 .taken in rw e (c .before .before .leaf-at .ensures ∙ ap₂ (λ (p q : ℕ). leafAt (a .size) p (a .y) q (a .cells .now)) (c .before .before .before .before .before .offset .ensures) (c .before .before .before .before .offset2 .ensures))
+returns c =
+    let s = c .before .before .before .before .before .before .before .before .before in
+    let a = s .args in
+    let e : hasLeaf (a .wx) (a .wz) (a .r) (a .l) (a .i) (a .m) ≡ true =
+    sym (c .before .before .before .before .before .before .before .leafy .ensures ∙ ap₂ (λ (u v : ℤ). hasLeaf u v (a .r) (a .l) (a .i) (a .m)) (toZ-ofZ w32 (a .wx) (s .fits .wx)) (toZ-ofZ w32 (a .wz) (s .fits .wz)))
+    ∙ c .before .before .before .before .before .before .if1 .taken in
+    rw e (c .before .before .leaf-at .ensures ∙ ap₂ (λ (p q : ℕ). leafAt (a .size) p (a .y) q (a .cells .now)) (c .before .before .before .before .before .offset .ensures) (c .before .before .before .before .offset2 .ensures))
 
 returns-2 : tie.Need-returns-2
 unfolding leafStep
-returns-2 c = let s = c .before .before .before in let a = s .args in let e : hasLeaf (a .wx) (a .wz) (a .r) (a .l) (a .i) (a .m) ≡ false = sym (c .before .leafy .ensures ∙ ap₂ (λ (u v : ℤ). hasLeaf u v (a .r) (a .l) (a .i) (a .m)) (toZ-ofZ w32 (a .wx) (s .fits .wx)) (toZ-ofZ w32 (a .wz) (s .fits .wz))) ∙ c .if1 .left in rw e
+returns-2 c =
+    let s = c .before .before .before in
+    let a = s .args in
+    let e : hasLeaf (a .wx) (a .wz) (a .r) (a .l) (a .i) (a .m) ≡ false =
+    sym (c .before .leafy .ensures ∙ ap₂ (λ (u v : ℤ). hasLeaf u v (a .r) (a .l) (a .i) (a .m)) (toZ-ofZ w32 (a .wx) (s .fits .wx)) (toZ-ofZ w32 (a .wz) (s .fits .wz)))
+    ∙ c .if1 .left in
+    rw e
 
 pub leaf-spec : {M : Type 1} → statement M
 leaf-spec =

@@ -34,7 +34,14 @@ hash2-requires c κs = search needs
 
 returns : tie.Need-returns
 unfolding leafHash
-returns c = let s = c .before .before .before .before .before .before .before in let a = s .args in c .hash2 .ensures ∙ ap₂ hash2₃₂ (read w32 (c .before .before .before .before .before .wrapping-add .ok) (c .before .before .before .before .before .wrapping-add .ensures ∙ ap₂ addW (toZ-ofZ w32 (a .wx) (s .fits .wx)) (read w32 (c .before .before .before .before .before .before .diff .ok) (c .before .before .before .before .before .before .diff .ensures)))) (read w32 (c .before .wrapping-add3 .ok) (c .before .wrapping-add3 .ensures ∙ ap₂ addW (read w32 (c .before .before .before .wrapping-add2 .ok) (c .before .before .before .wrapping-add2 .ensures ∙ ap₂ addW (toZ-ofZ w32 (a .wz) (s .fits .wz)) (read w32 (c .before .before .before .before .diff2 .ok) (c .before .before .before .before .diff2 .ensures)))) (read w32 (c .before .before .diff3 .ok) (c .before .before .diff3 .ensures))))
+returns c =
+    let c4 = c .before .before .before .before in
+    let c5 = c4 .before in
+    let c6 = c5 .before in
+    let s = c6 .before in
+    let a = s .args in
+    c .hash2 .ensures
+    ∙ ap₂ hash2₃₂ (read w32 (c5 .wrapping-add .ok) (c5 .wrapping-add .ensures ∙ ap₂ addW (toZ-ofZ w32 (a .wx) (s .fits .wx)) (read w32 (c6 .diff .ok) (c6 .diff .ensures)))) (read w32 (c .before .wrapping-add3 .ok) (c .before .wrapping-add3 .ensures ∙ ap₂ addW (read w32 (c .before .before .before .wrapping-add2 .ok) (c .before .before .before .wrapping-add2 .ensures ∙ ap₂ addW (toZ-ofZ w32 (a .wz) (s .fits .wz)) (read w32 (c4 .diff2 .ok) (c4 .diff2 .ensures)))) (read w32 (c .before .before .diff3 .ok) (c .before .before .diff3 .ensures))))
 
 pub leaf-hash-spec : {M : Type 1} → statement M
 leaf-hash-spec =

@@ -41,19 +41,63 @@ shared-slice-read-if1 : tie.Need-shared-slice-read-if1 Inv-loop μ-loop
 shared-slice-read-if1 c = omega arith
 
 add-n : tie.Need-add-n Inv-loop μ-loop
-add-n c = let s = c .before .before .before .before in let a = s .args in let l = c .before .before .before .loop in let cs = a .cells .now in let i0 : l .i ≤ length cs = l .inv .0 in let n0 : l .n ≤ l .i = l .inv .2 in let lt : l .i < length cs = c .before .before .loop-test .taken in omega arith
+add-n c =
+    let s = c .before .before .before .before in
+    let a = s .args in
+    let l = c .before .before .before .loop in
+    let cs = a .cells .now in
+    let i0 : l .i ≤ length cs = l .inv .0 in
+    let n0 : l .n ≤ l .i = l .inv .2 in
+    let lt : l .i < length cs = c .before .before .loop-test .taken in
+    omega arith
 
 add-i : tie.Need-add-i Inv-loop μ-loop
-add-i c = let s = c .before .before .before .before in let a = s .args in let l = c .before .before .before .loop in let cs = a .cells .now in let i0 : l .i ≤ length cs = l .inv .0 in let n0 : l .n ≤ l .i = l .inv .2 in let lt : l .i < length cs = c .before .before .loop-test .taken in omega arith
+add-i c =
+    let s = c .before .before .before .before in
+    let a = s .args in
+    let l = c .before .before .before .loop in
+    let cs = a .cells .now in
+    let i0 : l .i ≤ length cs = l .inv .0 in
+    let n0 : l .n ≤ l .i = l .inv .2 in
+    let lt : l .i < length cs = c .before .before .loop-test .taken in
+    omega arith
 
 loop-less : tie.Need-loop-less Inv-loop μ-loop
-loop-less c = let s = c .before .before .before .before in let a = s .args in let l = c .before .before .before .loop in let cs = a .cells .now in let i0 : l .i ≤ length cs = l .inv .0 in let n0 : l .n ≤ l .i = l .inv .2 in let lt : l .i < length cs = c .before .before .loop-test .taken in omega arith
+loop-less c =
+    let s = c .before .before .before .before in
+    let a = s .args in
+    let l = c .before .before .before .loop in
+    let cs = a .cells .now in
+    let i0 : l .i ≤ length cs = l .inv .0 in
+    let n0 : l .n ≤ l .i = l .inv .2 in
+    let lt : l .i < length cs = c .before .before .loop-test .taken in
+    omega arith
 
 loop-again : tie.Need-loop-again Inv-loop μ-loop
-loop-again c = let s = c .before .before .before .before in let a = s .args in let l = c .before .before .before .loop in let cs = a .cells .now in let i0 : l .i ≤ length cs = l .inv .0 in let n0 : l .n ≤ l .i = l .inv .2 in let lt : l .i < length cs = c .before .before .loop-test .taken in let nx : nonAirCount (take (l .i + 1) cs) ≡ nonAirCount (take (l .i) cs) + cond (eqb (getD cs (l .i) 0) 0) 0 1 = ap nonAirCount (ap (λ (k : ℕ). take k cs) (add-one (l .i)) ∙ take-suc cs (l .i) 0 lt) ∙ count-append (take (l .i) cs) (getD cs (l .i) 0 ∷ []) ∙ ap (λ (k : ℕ). nonAirCount (take (l .i) cs) + k) (count-one (getD cs (l .i) 0)) in let m : l .n ≡ nonAirCount (take (l .i) cs) = l .inv .1 in ⊎-elim (λ w. (let u : c .if1 .n ≡ l .n + 1 = w .1 in let q : _≡_ {A = ℕ} (cond {A = ℕ} (eqb (getD cs (l .i) 0) 0) 0 1) 1 = ap (λ (t : Bool). cond {A = ℕ} t 0 1) (ne-eqb _ _ (w .0 .taken)) in (omega arith, (let g : c .if1 .n ≡ nonAirCount (take (l .i) cs) + cond (eqb (getD cs (l .i) 0) 0) 0 1 = omega arith in g ∙ sym nx), omega arith))) (λ w. (let u : c .if1 .n ≡ l .n = w .1 in let q : _≡_ {A = ℕ} (cond {A = ℕ} (eqb (getD cs (l .i) 0) 0) 0 1) 0 = ap (λ (t : Bool). cond {A = ℕ} t 0 1) (eq-eqb _ _ (w .0 .left)) in (omega arith, (let g : c .if1 .n ≡ nonAirCount (take (l .i) cs) + cond (eqb (getD cs (l .i) 0) 0) 0 1 = omega arith in g ∙ sym nx), omega arith))) (c .if1 .came)
+loop-again c =
+    let s = c .before .before .before .before in
+    let a = s .args in
+    let l = c .before .before .before .loop in
+    let cs = a .cells .now in
+    let i0 : l .i ≤ length cs = l .inv .0 in
+    let n0 : l .n ≤ l .i = l .inv .2 in
+    let lt : l .i < length cs = c .before .before .loop-test .taken in
+    let nx : nonAirCount (take (l .i + 1) cs) ≡ nonAirCount (take (l .i) cs) + cond (eqb (getD cs (l .i) 0) 0) 0 1 =
+    ap nonAirCount (ap (λ (k : ℕ). take k cs) (add-one (l .i)) ∙ take-suc cs (l .i) 0 lt) ∙ count-append (take (l .i) cs) (getD cs (l .i) 0 ∷ [])
+    ∙ ap (λ (k : ℕ). nonAirCount (take (l .i) cs) + k) (count-one (getD cs (l .i) 0)) in
+    let m : l .n ≡ nonAirCount (take (l .i) cs) = l .inv .1 in
+    ⊎-elim (λ w. (let u : c .if1 .n ≡ l .n + 1 = w .1 in let q : _≡_ {A = ℕ} (cond {A = ℕ} (eqb (getD cs (l .i) 0) 0) 0 1) 1 = ap (λ (t : Bool). cond {A = ℕ} t 0 1) (ne-eqb _ _ (w .0 .taken)) in (omega arith, (let g : c .if1 .n ≡ nonAirCount (take (l .i) cs) + cond (eqb (getD cs (l .i) 0) 0) 0 1 = omega arith in g ∙ sym nx), omega arith))) (λ w. (let u : c .if1 .n ≡ l .n = w .1 in let q : _≡_ {A = ℕ} (cond {A = ℕ} (eqb (getD cs (l .i) 0) 0) 0 1) 0 = ap (λ (t : Bool). cond {A = ℕ} t 0 1) (eq-eqb _ _ (w .0 .left)) in (omega arith, (let g : c .if1 .n ≡ nonAirCount (take (l .i) cs) + cond (eqb (getD cs (l .i) 0) 0) 0 1 = omega arith in g ∙ sym nx), omega arith))) (c .if1 .came)
 
 returns : tie.Need-returns Inv-loop μ-loop
-returns c = let s = c .before .before in let a = s .args in let l = c .before .loop in let cs = a .cells .now in let i0 : l .i ≤ length cs = l .inv .0 in let n0 : l .n ≤ l .i = l .inv .2 in let e : length cs ≤ l .i = c .loop-test .left in l .inv .1 ∙ ap nonAirCount (take-all (l .i) cs e)
+returns c =
+    let s = c .before .before in
+    let a = s .args in
+    let l = c .before .loop in
+    let cs = a .cells .now in
+    let i0 : l .i ≤ length cs = l .inv .0 in
+    let n0 : l .n ≤ l .i = l .inv .2 in
+    let e : length cs ≤ l .i = c .loop-test .left in
+    l .inv .1 ∙ ap nonAirCount (take-all (l .i) cs e)
 
 pub count-non-air-spec : {M : Type 1} → statement M
 count-non-air-spec =

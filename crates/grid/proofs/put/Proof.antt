@@ -32,23 +32,37 @@ returns-2 c = let a = c .before .before .before .args in rw (out-y (a .size) (a 
 
 returns-3 : tie.Need-returns-3
 unfolding putAt
-returns-3 c = let a = c .before .before .before .before .args in rw (out-z (a .size) (a .x) (a .y) (a .z) (c .before .before .if1 .left) (c .before .if2 .left) (c .if3 .taken))
+returns-3 c =
+    let a = c .before .before .before .before .args in
+    rw (out-z (a .size) (a .x) (a .y) (a .z) (c .before .before .if1 .left) (c .before .if2 .left) (c .if3 .taken))
 
 cell-index-requires : tie.Need-cell-index-requires
 cell-index-requires c κs = search needs
 
 mul-cells : tie.Need-mul-cells
-mul-cells c = let a = c .before .before .before .before .before .args in let l = index-lt (a .size) (a .x) (a .y) (a .z) (c .before .before .before .if1 .left) (c .before .before .if2 .left) (c .before .if3 .left) in let e = c .cell-index .ensures in let k = cube-most (a .size) (c .before .before .before .before .before .pre .most) in omega arith
+mul-cells c =
+    let a = c .before .before .before .before .before .args in
+    let l = index-lt (a .size) (a .x) (a .y) (a .z) (c .before .before .before .if1 .left) (c .before .before .if2 .left) (c .before .if3 .left) in
+    let e = c .cell-index .ensures in
+    let k = cube-most (a .size) (c .before .before .before .before .before .pre .most) in
+    omega arith
 
 slice-write-cells : tie.Need-slice-write-cells
-slice-write-cells c = let a = c .before .before .before .before .before .args in let l = index-lt (a .size) (a .x) (a .y) (a .z) (c .before .before .before .if1 .left) (c .before .before .if2 .left) (c .before .if3 .left) in let e = c .cell-index .ensures in let k = c .before .before .before .before .before .pre .all in omega arith
+slice-write-cells c =
+    let a = c .before .before .before .before .before .args in
+    let l = index-lt (a .size) (a .x) (a .y) (a .z) (c .before .before .before .if1 .left) (c .before .before .if2 .left) (c .before .if3 .left) in
+    let e = c .cell-index .ensures in
+    let k = c .before .before .before .before .before .pre .all in
+    omega arith
 
 same-length : tie.Need-same-length
 same-length c = search needs
 
 returns-4 : tie.Need-returns-4
 unfolding putAt
-returns-4 c = let a = c .before .before .before .before .before .args in rw (in-all (a .size) (a .x) (a .y) (a .z) (c .before .before .before .if1 .left) (c .before .before .if2 .left) (c .before .if3 .left), c .cell-index .ensures)
+returns-4 c =
+    let a = c .before .before .before .before .before .args in
+    rw (in-all (a .size) (a .x) (a .y) (a .z) (c .before .before .before .if1 .left) (c .before .before .if2 .left) (c .before .if3 .left), c .cell-index .ensures)
 
 pub put-spec : {M : Type 1} → statement M
 put-spec =

@@ -32,20 +32,35 @@ returns-2 c = let a = c .before .before .before .args in rw (out-y (a .size) (a 
 
 returns-3 : tie.Need-returns-3
 unfolding seeAt
-returns-3 c = let a = c .before .before .before .before .args in rw (out-z (a .size) (a .x) (a .y) (a .z) (c .before .before .if1 .left) (c .before .if2 .left) (c .if3 .taken))
+returns-3 c =
+    let a = c .before .before .before .before .args in
+    rw (out-z (a .size) (a .x) (a .y) (a .z) (c .before .before .if1 .left) (c .before .if2 .left) (c .if3 .taken))
 
 cell-index-requires : tie.Need-cell-index-requires
 cell-index-requires c κs = search needs
 
 mul-result : tie.Need-mul-result
-mul-result c = let a = c .before .before .before .before .before .args in let l = index-lt (a .size) (a .x) (a .y) (a .z) (c .before .before .before .if1 .left) (c .before .before .if2 .left) (c .before .if3 .left) in let e = c .cell-index .ensures in let k = cube-most (a .size) (c .before .before .before .before .before .pre .most) in omega arith
+mul-result c =
+    let a = c .before .before .before .before .before .args in
+    let l = index-lt (a .size) (a .x) (a .y) (a .z) (c .before .before .before .if1 .left) (c .before .before .if2 .left) (c .before .if3 .left) in
+    let e = c .cell-index .ensures in
+    let k = cube-most (a .size) (c .before .before .before .before .before .pre .most) in
+    omega arith
 
 shared-slice-read-result : tie.Need-shared-slice-read-result
-shared-slice-read-result c = let a = c .before .before .before .before .before .before .args in let l = index-lt (a .size) (a .x) (a .y) (a .z) (c .before .before .before .before .if1 .left) (c .before .before .before .if2 .left) (c .before .before .if3 .left) in let e = c .before .cell-index .ensures in let k = c .before .before .before .before .before .before .pre .all in omega arith
+shared-slice-read-result c =
+    let a = c .before .before .before .before .before .before .args in
+    let l =
+    index-lt (a .size) (a .x) (a .y) (a .z) (c .before .before .before .before .if1 .left) (c .before .before .before .if2 .left) (c .before .before .if3 .left) in
+    let e = c .before .cell-index .ensures in
+    let k = c .before .before .before .before .before .before .pre .all in
+    omega arith
 
 returns-4 : tie.Need-returns-4
 unfolding seeAt
-returns-4 c = let a = c .before .before .before .before .before .before .args in rw (in-all (a .size) (a .x) (a .y) (a .z) (c .before .before .before .before .if1 .left) (c .before .before .before .if2 .left) (c .before .before .if3 .left), c .before .cell-index .ensures)
+returns-4 c =
+    let a = c .before .before .before .before .before .before .args in
+    rw (in-all (a .size) (a .x) (a .y) (a .z) (c .before .before .before .before .if1 .left) (c .before .before .before .if2 .left) (c .before .before .if3 .left), c .before .cell-index .ensures)
 
 pub see-spec : {M : Type 1} → statement M
 see-spec =

@@ -70,12 +70,14 @@ cast-t12 c =
     let s = a .config in
     let p = a .pos in
     let cs = a .cells .now in
-    let e : c .before .before .before .before .before .before .before .refusal-of .result ≡ generateRefusal s p (length cs) = c .before .before .before .before .before .before .before .refusal-of .ensures in
+    let e : c .before .before .before .before .before .before .before .refusal-of .result ≡ generateRefusal s p (length cs) =
+    c .before .before .before .before .before .before .before .refusal-of .ensures in
     let z : generateRefusal s p (length cs) ≡ 0 = sym e ∙ c .before .before .before .before .before .before .if1 .left in
     let q : Sound s p (length cs) = sound s p (length cs) z in
     let laid = c .before .before .lay-chunk .last .1 .1 .0 in
     let l : length laid ≡ length cs = c .before .before .lay-chunk .kept .1 .1 .0 in
-    let k : c .before .before .lay-chunk .result ≡ nonAirCount laid = c .before .before .lay-chunk .ensures .1 ∙ ap nonAirCount (sym (c .before .before .lay-chunk .ensures .0)) in
+    let k : c .before .before .lay-chunk .result ≡ nonAirCount laid =
+    c .before .before .lay-chunk .ensures .1 ∙ ap nonAirCount (sym (c .before .before .lay-chunk .ensures .0)) in
     let most = count-most laid in
     let cube = cube-most (s .«chunk_size») (q .within .most) in
     let all = q .all in
@@ -87,17 +89,20 @@ same-length c = search needs
 returns-2 : tie.Need-returns-2
 unfolding generateDoes ground
 returns-2 c =
-    let a = c .before .before .before .before .before .before .before .before .before .args in
+    let c7 = c .before .before .before .before .before .before .before in
+    let c9 = c7 .before .before in
+    let a = c9 .args in
     let s = a .config in
     let p = a .pos in
     let cs = a .cells .now in
-    let e : c .before .before .before .before .before .before .before .refusal-of .result ≡ generateRefusal s p (length cs) = c .before .before .before .before .before .before .before .refusal-of .ensures in
+    let e : c7 .refusal-of .result ≡ generateRefusal s p (length cs) = c7 .refusal-of .ensures in
     let z : generateRefusal s p (length cs) ≡ 0 = sym e ∙ c .before .before .before .before .before .before .if1 .left in
     let q : Sound s p (length cs) = sound s p (length cs) z in
     let laid = c .before .before .lay-chunk .last .1 .1 .0 in
     let r = c .before .before .lay-chunk .ensures in
     let k : c .before .before .lay-chunk .result ≡ nonAirCount laid = r .1 ∙ ap nonAirCount (sym (r .0)) in
-    let g : laid ≡ groundIn (worldOf s) (frameOf s p) = r .0 ∙ ap₂ groundIn (c .before .before .before .before .before .world-of .ensures) (c .before .before .before .before .frame-of .ensures) in
+    let g : laid ≡ groundIn (worldOf s) (frameOf s p) =
+    r .0 ∙ ap₂ groundIn (c .before .before .before .before .before .world-of .ensures) (c .before .before .before .before .frame-of .ensures) in
     rw (eq-eqb (generateRefusal s p (length cs)) 0 z)
     (ap (λ (k : ℕ). outcome (accepted k) laid) k ∙ ap (λ (d : List ℕ). outcome (accepted (nonAirCount d)) d) g)
 

@@ -55,7 +55,8 @@ id-of-requires c κs = search needs
 
 returns : tie.Need-returns
 unfolding groupOf
-returns c = λ i. group (c .before .before .before .before .before .before .wide .ensures i) (c .before .before .before .before .wide2 .ensures i) (c .before .before .wide3 .ensures i) (c .id-of .ensures i)
+returns c =
+    λ i. group (c .before .before .before .before .before .before .wide .ensures i) (c .before .before .before .before .wide2 .ensures i) (c .before .before .wide3 .ensures i) (c .id-of .ensures i)
 
 pub group-at-spec : {M : Type 1} → statement M
 group-at-spec =

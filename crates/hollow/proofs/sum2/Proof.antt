@@ -61,7 +61,8 @@ returns c =
     let more = octave-more (a .y) (a .z) (a .n) (a .eases .now) (a .edges .now) in
     let p : (o * 64 + 704 + a .y) + 64 ≡ levelAt (o + 1) (a .y) = omega arith in
     let q : (o * 64 + 1216 + a .z) + 64 ≡ depthAt (o + 1) (a .z) = omega arith in
-    let u = more o (levelAt o (a .y)) (depthAt o (a .z)) (nat 1) (λ (i : ℕ). nat 0) _ _ refl refl (c .before .before .before .before .before .before .before .before .before .before .clear .ensures) (c .before .before .before .before .before .before .add-row .ensures) in
+    let u =
+    more o (levelAt o (a .y)) (depthAt o (a .z)) (nat 1) (λ (i : ℕ). nat 0) _ _ refl refl (c .before .before .before .before .before .before .before .before .before .before .clear .ensures) (c .before .before .before .before .before .before .add-row .ensures) in
     more (o + 1) (o * 64 + 704 + a .y + 64) (o * 64 + 1216 + a .z + 64) (nearest 1 2) _ _ _ p q u (c .before .before .add-row2 .ensures)
 
 pub sum2-spec : {M : Type 1} → statement M

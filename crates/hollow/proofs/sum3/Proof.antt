@@ -67,7 +67,8 @@ same-length c = search needs
 returns : tie.Need-returns
 unfolding sum3Of sum2Of zeroAt nearest ofBits
 returns c =
-    let s = c .before .before .before .before .before .before .before .before .before .before .before .before .before .before .before .before .before .before .before in
+    let s =
+    c .before .before .before .before .before .before .before .before .before .before .before .before .before .before .before .before .before .before .before in
     let a = s .args in
     let o = a .o in
     let more = octave-more (a .y) (a .z) (a .n) (a .eases .now) (a .edges .now) in
@@ -75,8 +76,10 @@ returns c =
     let q : (o * 64 + 1216 + a .z) + 64 ≡ depthAt (o + 1) (a .z) = omega arith in
     let p2 : (o * 64 + 704 + a .y) + 128 ≡ levelAt (o + 2) (a .y) = omega arith in
     let q2 : (o * 64 + 1216 + a .z) + 128 ≡ depthAt (o + 2) (a .z) = omega arith in
-    let u = more o (levelAt o (a .y)) (depthAt o (a .z)) (nat 1) (λ (i : ℕ). nat 0) _ _ refl refl (c .before .before .before .before .before .before .before .before .before .before .before .before .before .before .clear .ensures) (c .before .before .before .before .before .before .before .before .before .before .add-row .ensures) in
-    let v = more (o + 1) (o * 64 + 704 + a .y + 64) (o * 64 + 1216 + a .z + 64) (nearest 1 2) _ _ _ p q u (c .before .before .before .before .before .before .add-row2 .ensures) in
+    let u =
+    more o (levelAt o (a .y)) (depthAt o (a .z)) (nat 1) (λ (i : ℕ). nat 0) _ _ refl refl (c .before .before .before .before .before .before .before .before .before .before .before .before .before .before .clear .ensures) (c .before .before .before .before .before .before .before .before .before .before .add-row .ensures) in
+    let v =
+    more (o + 1) (o * 64 + 704 + a .y + 64) (o * 64 + 1216 + a .z + 64) (nearest 1 2) _ _ _ p q u (c .before .before .before .before .before .before .add-row2 .ensures) in
     more (o + 2) (o * 64 + 704 + a .y + 128) (o * 64 + 1216 + a .z + 128) (nearest 1 4) _ _ _ p2 q2 v (c .before .before .add-row3 .ensures)
 
 pub sum3-spec : {M : Type 1} → statement M

@@ -23,7 +23,8 @@ same-length : tie.Need-same-length
 same-length c = search needs
 
 returns-2 : tie.Need-returns-2
-returns-2 c = border-in-c _ _ _ _ _ _ _ _ (c .before .before .before .before .before .face .ensures) (c .border-answer .ensures) (c .before .before .before .extract-border .ensures)
+returns-2 c =
+    border-in-c _ _ _ _ _ _ _ _ (c .before .before .before .before .before .face .ensures) (c .border-answer .ensures) (c .before .before .before .extract-border .ensures)
 
 pub pl-extract-border-spec : {M : Type 1} → statement M
 pl-extract-border-spec =

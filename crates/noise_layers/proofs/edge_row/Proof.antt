@@ -20,16 +20,37 @@ use Rattle.noise_layers.proofs.edge_row.Statement.{statement}
 use Rattle.noise_layers.proofs.edge_row.Tie as tie
 
 abbrev Inv-loop : tie.InvT-loop
-Inv-loop iy iz base to n floors eases edges₀ at₀ a₀ b₀ i₀ edges at a b i = (i ≤ n) × Hashes (toZ w32 iy) (toZ w32 iz) at a b × Laid to i (edgeAt (toZ w32 iy) (toZ w32 iz) base floors eases) edges₀ edges
+Inv-loop iy iz base to n floors eases edges₀ at₀ a₀ b₀ i₀ edges at a b i =
+    (i ≤ n) × Hashes (toZ w32 iy) (toZ w32 iz) at a b × Laid to i (edgeAt (toZ w32 iy) (toZ w32 iz) base floors eases) edges₀ edges
 
 abbrev μ-loop : tie.MeasureT-loop
 μ-loop iy iz base to n floors eases edges₀ at₀ a₀ b₀ i₀ edges at a b i = n - i
 
 mul-at : tie.Need-mul-at Inv-loop μ-loop
-mul-at c = let s = c .before .before .before in let p = s .pre in let z = p .0 in let n = p .1 in let b = p .2 in let t = p .3 in let f = p .4 in let g = p .5 in let e = p .6 in omega arith
+mul-at c =
+    let s = c .before .before .before in
+    let p = s .pre in
+    let z = p .0 in
+    let n = p .1 in
+    let b = p .2 in
+    let t = p .3 in
+    let f = p .4 in
+    let g = p .5 in
+    let e = p .6 in
+    omega arith
 
 shared-slice-read-at : tie.Need-shared-slice-read-at Inv-loop μ-loop
-shared-slice-read-at c = let s = c .before .before .before .before in let p = s .pre in let z = p .0 in let n = p .1 in let b = p .2 in let t = p .3 in let f = p .4 in let g = p .5 in let e = p .6 in omega arith
+shared-slice-read-at c =
+    let s = c .before .before .before .before in
+    let p = s .pre in
+    let z = p .0 in
+    let n = p .1 in
+    let b = p .2 in
+    let t = p .3 in
+    let f = p .4 in
+    let g = p .5 in
+    let e = p .6 in
+    omega arith
 
 of-bits-requires : tie.Need-of-bits-requires Inv-loop μ-loop
 of-bits-requires c κs = search needs
@@ -57,13 +78,52 @@ loop-holds c =
     (omega arith, (c .before .before .before .hash3 .ensures ∙ ap (λ (u : ℤ). hash3₃₂ u iy iz) ix, c .hash32 .ensures ∙ ap (λ (u : ℤ). hash3₃₂ u iy iz) jx), laid-none (s .args .to) _ (s .args .edges .now))
 
 add-next : tie.Need-add-next Inv-loop μ-loop
-add-next c = let s = c .before .before .before .before .before .before .before .before .before .before .before in let l = c .before .loop in let p = s .pre in let z = p .0 in let n = p .1 in let b = p .2 in let t = p .3 in let f = p .4 in let g = p .5 in let e = p .6 in let q : l .i < s .args .n = c .loop-test .taken in let k : length (l .edges) ≡ length (s .args .edges .now) = l .inv .2 .long in omega arith
+add-next c =
+    let s = c .before .before .before .before .before .before .before .before .before .before .before in
+    let l = c .before .loop in
+    let p = s .pre in
+    let z = p .0 in
+    let n = p .1 in
+    let b = p .2 in
+    let t = p .3 in
+    let f = p .4 in
+    let g = p .5 in
+    let e = p .6 in
+    let q : l .i < s .args .n = c .loop-test .taken in
+    let k : length (l .edges) ≡ length (s .args .edges .now) = l .inv .2 .long in
+    omega arith
 
 mul-next : tie.Need-mul-next Inv-loop μ-loop
-mul-next c = let s = c .before .before .before .before .before .before .before .before .before .before .before in let l = c .before .loop in let p = s .pre in let z = p .0 in let n = p .1 in let b = p .2 in let t = p .3 in let f = p .4 in let g = p .5 in let e = p .6 in let q : l .i < s .args .n = c .loop-test .taken in let k : length (l .edges) ≡ length (s .args .edges .now) = l .inv .2 .long in omega arith
+mul-next c =
+    let s = c .before .before .before .before .before .before .before .before .before .before .before in
+    let l = c .before .loop in
+    let p = s .pre in
+    let z = p .0 in
+    let n = p .1 in
+    let b = p .2 in
+    let t = p .3 in
+    let f = p .4 in
+    let g = p .5 in
+    let e = p .6 in
+    let q : l .i < s .args .n = c .loop-test .taken in
+    let k : length (l .edges) ≡ length (s .args .edges .now) = l .inv .2 .long in
+    omega arith
 
 shared-slice-read-next : tie.Need-shared-slice-read-next Inv-loop μ-loop
-shared-slice-read-next c = let s = c .before .before .before .before .before .before .before .before .before .before .before .before in let l = c .before .before .loop in let p = s .pre in let z = p .0 in let n = p .1 in let b = p .2 in let t = p .3 in let f = p .4 in let g = p .5 in let e = p .6 in let q : l .i < s .args .n = c .before .loop-test .taken in let k : length (l .edges) ≡ length (s .args .edges .now) = l .inv .2 .long in omega arith
+shared-slice-read-next c =
+    let s = c .before .before .before .before .before .before .before .before .before .before .before .before in
+    let l = c .before .before .loop in
+    let p = s .pre in
+    let z = p .0 in
+    let n = p .1 in
+    let b = p .2 in
+    let t = p .3 in
+    let f = p .4 in
+    let g = p .5 in
+    let e = p .6 in
+    let q : l .i < s .args .n = c .before .loop-test .taken in
+    let k : length (l .edges) ≡ length (s .args .edges .now) = l .inv .2 .long in
+    omega arith
 
 of-bits-requires-3 : tie.Need-of-bits-requires-3 Inv-loop μ-loop
 of-bits-requires-3 c κs = search needs
@@ -81,31 +141,135 @@ hash3-requires-4 : tie.Need-hash3-requires-4 Inv-loop μ-loop
 hash3-requires-4 c κs = search needs
 
 add-lerp : tie.Need-add-lerp Inv-loop μ-loop
-add-lerp c = let s = c .before .before .before .before .before .before .before .before .before .before .before .before .before in let l = c .before .before .before .loop in let p = s .pre in let z = p .0 in let n = p .1 in let b = p .2 in let t = p .3 in let f = p .4 in let g = p .5 in let e = p .6 in let q : l .i < s .args .n = c .before .before .loop-test .taken in let k : length (l .edges) ≡ length (s .args .edges .now) = l .inv .2 .long in omega arith
+add-lerp c =
+    let s = c .before .before .before .before .before .before .before .before .before .before .before .before .before in
+    let l = c .before .before .before .loop in
+    let p = s .pre in
+    let z = p .0 in
+    let n = p .1 in
+    let b = p .2 in
+    let t = p .3 in
+    let f = p .4 in
+    let g = p .5 in
+    let e = p .6 in
+    let q : l .i < s .args .n = c .before .before .loop-test .taken in
+    let k : length (l .edges) ≡ length (s .args .edges .now) = l .inv .2 .long in
+    omega arith
 
 mul-lerp : tie.Need-mul-lerp Inv-loop μ-loop
-mul-lerp c = let s = c .before .before .before .before .before .before .before .before .before .before .before .before .before in let l = c .before .before .before .loop in let p = s .pre in let z = p .0 in let n = p .1 in let b = p .2 in let t = p .3 in let f = p .4 in let g = p .5 in let e = p .6 in let q : l .i < s .args .n = c .before .before .loop-test .taken in let k : length (l .edges) ≡ length (s .args .edges .now) = l .inv .2 .long in omega arith
+mul-lerp c =
+    let s = c .before .before .before .before .before .before .before .before .before .before .before .before .before in
+    let l = c .before .before .before .loop in
+    let p = s .pre in
+    let z = p .0 in
+    let n = p .1 in
+    let b = p .2 in
+    let t = p .3 in
+    let f = p .4 in
+    let g = p .5 in
+    let e = p .6 in
+    let q : l .i < s .args .n = c .before .before .loop-test .taken in
+    let k : length (l .edges) ≡ length (s .args .edges .now) = l .inv .2 .long in
+    omega arith
 
 shared-slice-read-lerp : tie.Need-shared-slice-read-lerp Inv-loop μ-loop
-shared-slice-read-lerp c = let s = c .before .before .before .before .before .before .before .before .before .before .before .before .before .before in let l = c .before .before .before .before .loop in let p = s .pre in let z = p .0 in let n = p .1 in let b = p .2 in let t = p .3 in let f = p .4 in let g = p .5 in let e = p .6 in let q : l .i < s .args .n = c .before .before .before .loop-test .taken in let k : length (l .edges) ≡ length (s .args .edges .now) = l .inv .2 .long in omega arith
+shared-slice-read-lerp c =
+    let s = c .before .before .before .before .before .before .before .before .before .before .before .before .before .before in
+    let l = c .before .before .before .before .loop in
+    let p = s .pre in
+    let z = p .0 in
+    let n = p .1 in
+    let b = p .2 in
+    let t = p .3 in
+    let f = p .4 in
+    let g = p .5 in
+    let e = p .6 in
+    let q : l .i < s .args .n = c .before .before .before .loop-test .taken in
+    let k : length (l .edges) ≡ length (s .args .edges .now) = l .inv .2 .long in
+    omega arith
 
 lerp-requires : tie.Need-lerp-requires Inv-loop μ-loop
 lerp-requires c κs = search needs
 
 add-edges : tie.Need-add-edges Inv-loop μ-loop
-add-edges c = let s = c .before .before .before .before .before .before .before .before .before .before .before .before .before .before .before in let l = c .before .before .before .before .before .loop in let p = s .pre in let z = p .0 in let n = p .1 in let b = p .2 in let t = p .3 in let f = p .4 in let g = p .5 in let e = p .6 in let q : l .i < s .args .n = c .before .before .before .before .loop-test .taken in let k : length (l .edges) ≡ length (s .args .edges .now) = l .inv .2 .long in omega arith
+add-edges c =
+    let s = c .before .before .before .before .before .before .before .before .before .before .before .before .before .before .before in
+    let l = c .before .before .before .before .before .loop in
+    let p = s .pre in
+    let z = p .0 in
+    let n = p .1 in
+    let b = p .2 in
+    let t = p .3 in
+    let f = p .4 in
+    let g = p .5 in
+    let e = p .6 in
+    let q : l .i < s .args .n = c .before .before .before .before .loop-test .taken in
+    let k : length (l .edges) ≡ length (s .args .edges .now) = l .inv .2 .long in
+    omega arith
 
 mul-edges : tie.Need-mul-edges Inv-loop μ-loop
-mul-edges c = let s = c .before .before .before .before .before .before .before .before .before .before .before .before .before .before .before in let l = c .before .before .before .before .before .loop in let p = s .pre in let z = p .0 in let n = p .1 in let b = p .2 in let t = p .3 in let f = p .4 in let g = p .5 in let e = p .6 in let q : l .i < s .args .n = c .before .before .before .before .loop-test .taken in let k : length (l .edges) ≡ length (s .args .edges .now) = l .inv .2 .long in omega arith
+mul-edges c =
+    let s = c .before .before .before .before .before .before .before .before .before .before .before .before .before .before .before in
+    let l = c .before .before .before .before .before .loop in
+    let p = s .pre in
+    let z = p .0 in
+    let n = p .1 in
+    let b = p .2 in
+    let t = p .3 in
+    let f = p .4 in
+    let g = p .5 in
+    let e = p .6 in
+    let q : l .i < s .args .n = c .before .before .before .before .loop-test .taken in
+    let k : length (l .edges) ≡ length (s .args .edges .now) = l .inv .2 .long in
+    omega arith
 
 slice-write-edges : tie.Need-slice-write-edges Inv-loop μ-loop
-slice-write-edges c = let s = c .before .before .before .before .before .before .before .before .before .before .before .before .before .before .before in let l = c .before .before .before .before .before .loop in let p = s .pre in let z = p .0 in let n = p .1 in let b = p .2 in let t = p .3 in let f = p .4 in let g = p .5 in let e = p .6 in let q : l .i < s .args .n = c .before .before .before .before .loop-test .taken in let k : length (l .edges) ≡ length (s .args .edges .now) = l .inv .2 .long in omega arith
+slice-write-edges c =
+    let s = c .before .before .before .before .before .before .before .before .before .before .before .before .before .before .before in
+    let l = c .before .before .before .before .before .loop in
+    let p = s .pre in
+    let z = p .0 in
+    let n = p .1 in
+    let b = p .2 in
+    let t = p .3 in
+    let f = p .4 in
+    let g = p .5 in
+    let e = p .6 in
+    let q : l .i < s .args .n = c .before .before .before .before .loop-test .taken in
+    let k : length (l .edges) ≡ length (s .args .edges .now) = l .inv .2 .long in
+    omega arith
 
 add-i : tie.Need-add-i Inv-loop μ-loop
-add-i c = let s = c .before .before .before .before .before .before .before .before .before .before .before .before .before .before .before in let l = c .before .before .before .before .before .loop in let p = s .pre in let z = p .0 in let n = p .1 in let b = p .2 in let t = p .3 in let f = p .4 in let g = p .5 in let e = p .6 in let q : l .i < s .args .n = c .before .before .before .before .loop-test .taken in let k : length (l .edges) ≡ length (s .args .edges .now) = l .inv .2 .long in omega arith
+add-i c =
+    let s = c .before .before .before .before .before .before .before .before .before .before .before .before .before .before .before in
+    let l = c .before .before .before .before .before .loop in
+    let p = s .pre in
+    let z = p .0 in
+    let n = p .1 in
+    let b = p .2 in
+    let t = p .3 in
+    let f = p .4 in
+    let g = p .5 in
+    let e = p .6 in
+    let q : l .i < s .args .n = c .before .before .before .before .loop-test .taken in
+    let k : length (l .edges) ≡ length (s .args .edges .now) = l .inv .2 .long in
+    omega arith
 
 loop-less : tie.Need-loop-less Inv-loop μ-loop
-loop-less c = let s = c .before .before .before .before .before .before .before .before .before .before .before .before .before .before .before in let l = c .before .before .before .before .before .loop in let p = s .pre in let z = p .0 in let n = p .1 in let b = p .2 in let t = p .3 in let f = p .4 in let g = p .5 in let e = p .6 in let q : l .i < s .args .n = c .before .before .before .before .loop-test .taken in let k : length (l .edges) ≡ length (s .args .edges .now) = l .inv .2 .long in omega arith
+loop-less c =
+    let s = c .before .before .before .before .before .before .before .before .before .before .before .before .before .before .before in
+    let l = c .before .before .before .before .before .loop in
+    let p = s .pre in
+    let z = p .0 in
+    let n = p .1 in
+    let b = p .2 in
+    let t = p .3 in
+    let f = p .4 in
+    let g = p .5 in
+    let e = p .6 in
+    let q : l .i < s .args .n = c .before .before .before .before .loop-test .taken in
+    let k : length (l .edges) ≡ length (s .args .edges .now) = l .inv .2 .long in
+    omega arith
 
 loop-again : tie.Need-loop-again Inv-loop μ-loop
 unfolding edgeAt edge₃₂

@@ -22,7 +22,9 @@ square-at-requires : tie.Need-square-at-requires Inv-loop μ-loop
 square-at-requires c κs = search needs
 
 loop-holds : tie.Need-loop-holds Inv-loop μ-loop
-loop-holds c = let s = c .before .before .before .before in (omega arith, kept-of _ _ (c .square-at .ensures), start (oneMore (alongPlaces (s .args .xs .now) (s .args .ys .now)) (s .args .freq) (s .args .amp) (s .args .vals .now)) _)
+loop-holds c =
+    let s = c .before .before .before .before in
+    (omega arith, kept-of _ _ (c .square-at .ensures), start (oneMore (alongPlaces (s .args .xs .now) (s .args .ys .now)) (s .args .freq) (s .args .amp) (s .args .vals .now)) _)
 
 mul-noise-at : tie.Need-mul-noise-at Inv-loop μ-loop
 mul-noise-at c = let p = c .before .before .before .before .before .before .pre in omega arith
@@ -34,28 +36,51 @@ mul-noise-at-2 : tie.Need-mul-noise-at-2 Inv-loop μ-loop
 mul-noise-at-2 c = let p = c .before .before .before .before .before .before .before .pre in let t = c .before .loop-test .taken in omega arith
 
 shared-slice-read-noise-at-2 : tie.Need-shared-slice-read-noise-at-2 Inv-loop μ-loop
-shared-slice-read-noise-at-2 c = let p = c .before .before .before .before .before .before .before .before .pre in let t = c .before .before .loop-test .taken in omega arith
+shared-slice-read-noise-at-2 c =
+    let p = c .before .before .before .before .before .before .before .before .pre in
+    let t = c .before .before .loop-test .taken in
+    omega arith
 
 noise-at-requires : tie.Need-noise-at-requires Inv-loop μ-loop
 noise-at-requires c κs = c .before .before .before .loop .inv .1
 
 mul-vals : tie.Need-mul-vals Inv-loop μ-loop
-mul-vals c = let p = c .before .before .before .before .before .before .before .before .before .pre in let t = c .before .before .before .loop-test .taken in omega arith
+mul-vals c =
+    let p = c .before .before .before .before .before .before .before .before .before .pre in
+    let t = c .before .before .before .loop-test .taken in
+    omega arith
 
 slice-read-vals : tie.Need-slice-read-vals Inv-loop μ-loop
-slice-read-vals c = let p = c .before .before .before .before .before .before .before .before .before .before .pre in let t = c .before .before .before .before .loop-test .taken in let e = c .before .before .before .before .before .loop .inv .2 .same in omega arith
+slice-read-vals c =
+    let p = c .before .before .before .before .before .before .before .before .before .before .pre in
+    let t = c .before .before .before .before .loop-test .taken in
+    let e = c .before .before .before .before .before .loop .inv .2 .same in
+    omega arith
 
 mul-vals-2 : tie.Need-mul-vals-2 Inv-loop μ-loop
-mul-vals-2 c = let p = c .before .before .before .before .before .before .before .before .before .before .before .pre in let t = c .before .before .before .before .before .loop-test .taken in omega arith
+mul-vals-2 c =
+    let p = c .before .before .before .before .before .before .before .before .before .before .before .pre in
+    let t = c .before .before .before .before .before .loop-test .taken in
+    omega arith
 
 slice-write-vals : tie.Need-slice-write-vals Inv-loop μ-loop
-slice-write-vals c = let p = c .before .before .before .before .before .before .before .before .before .before .before .pre in let t = c .before .before .before .before .before .loop-test .taken in let e = c .before .before .before .before .before .before .loop .inv .2 .same in omega arith
+slice-write-vals c =
+    let p = c .before .before .before .before .before .before .before .before .before .before .before .pre in
+    let t = c .before .before .before .before .before .loop-test .taken in
+    let e = c .before .before .before .before .before .before .loop .inv .2 .same in
+    omega arith
 
 add-i : tie.Need-add-i Inv-loop μ-loop
-add-i c = let p = c .before .before .before .before .before .before .before .before .before .before .before .before .pre in let t = c .before .before .before .before .before .before .loop-test .taken in omega arith
+add-i c =
+    let p = c .before .before .before .before .before .before .before .before .before .before .before .before .pre in
+    let t = c .before .before .before .before .before .before .loop-test .taken in
+    omega arith
 
 loop-less : tie.Need-loop-less Inv-loop μ-loop
-loop-less c = let p = c .before .before .before .before .before .before .before .before .before .before .before .before .pre in let t = c .before .before .before .before .before .before .loop-test .taken in omega arith
+loop-less c =
+    let p = c .before .before .before .before .before .before .before .before .before .before .before .before .pre in
+    let t = c .before .before .before .before .before .before .loop-test .taken in
+    omega arith
 
 loop-again : tie.Need-loop-again Inv-loop μ-loop
 unfolding oneMore alongPlaces along2

@@ -12,7 +12,8 @@ use Rattle.noise_places.proofs.fbm_places.Statement.{statement}
 use Rattle.noise_places.proofs.fbm_places.Tie as tie
 
 abbrev Inv-loop : tie.InvT-loop
-Inv-loop xs ys octaves n vals₀ amp₀ freq₀ max₀ counter₀ vals amp freq max counter = (counter ≤ octaves) × (length vals ≡ length vals₀) × Passed n (alongPlaces xs ys) counter vals amp freq max
+Inv-loop xs ys octaves n vals₀ amp₀ freq₀ max₀ counter₀ vals amp freq max counter =
+    (counter ≤ octaves) × (length vals ≡ length vals₀) × Passed n (alongPlaces xs ys) counter vals amp freq max
 
 abbrev μ-loop : tie.MeasureT-loop
 μ-loop xs ys octaves n vals₀ amp₀ freq₀ max₀ counter₀ vals amp freq max counter = octaves - counter
@@ -22,13 +23,20 @@ clear-requires c κs = let s = c .before .before .before .before in (s .pre .1, 
 
 loop-holds : tie.Need-loop-holds Inv-loop μ-loop
 unfolding nearest ofBits
-loop-holds c = let s = c .before .before .before .before .before .before .before in (omega arith, refl, passed-none (s .args .n) (alongPlaces (s .args .xs .now) (s .args .ys .now)) _ (c .before .before .clear .ensures))
+loop-holds c =
+    let s = c .before .before .before .before .before .before .before in
+    (omega arith, refl, passed-none (s .args .n) (alongPlaces (s .args .xs .now) (s .args .ys .now)) _ (c .before .before .clear .ensures))
 
 add-octave-at-requires : tie.Need-add-octave-at-requires Inv-loop μ-loop
-add-octave-at-requires c κs = let s = c .before .before .before .before .before .before .before .before .before .before in (s .pre .1, s .pre .2, s .pre .3, c .before .before .loop .inv .2 .long)
+add-octave-at-requires c κs =
+    let s = c .before .before .before .before .before .before .before .before .before .before in
+    (s .pre .1, s .pre .2, s .pre .3, c .before .before .loop .inv .2 .long)
 
 add-counter : tie.Need-add-counter Inv-loop μ-loop
-add-counter c = let t = c .before .before .before .before .loop-test .taken in let f = c .before .before .before .before .before .before .before .before .before .before .before .before .before .args .octaves in omega arith
+add-counter c =
+    let t = c .before .before .before .before .loop-test .taken in
+    let f = c .before .before .before .before .before .before .before .before .before .before .before .before .before .args .octaves in
+    omega arith
 
 loop-less : tie.Need-loop-less Inv-loop μ-loop
 loop-less c = let t = c .before .before .before .before .loop-test .taken in omega arith
@@ -42,17 +50,21 @@ loop-again c =
     (omega arith, c .before .vals2 .given ∙ l .inv .1, passed-more (s .args .n) (alongPlaces (s .args .xs .now) (s .args .ys .now)) (l .counter) (l .vals) _ (l .amp) (l .freq) (l .max) (l .inv .2) (c .before .before .add-octave-at .ensures))
 
 divide-requires : tie.Need-divide-requires Inv-loop μ-loop
-divide-requires c κs = let s = c .before .before .before .before .before .before .before .before .before .before in (s .pre .1, c .before .before .loop .inv .2 .long)
+divide-requires c κs =
+    let s = c .before .before .before .before .before .before .before .before .before .before in
+    (s .pre .1, c .before .before .loop .inv .2 .long)
 
 same-length : tie.Need-same-length Inv-loop μ-loop
-same-length c = c .before .vals3 .given ∙ c .before .before .before .before .before .loop .inv .1 ∙ c .before .before .before .before .before .before .before .vals .given
+same-length c =
+    c .before .vals3 .given ∙ c .before .before .before .before .before .loop .inv .1 ∙ c .before .before .before .before .before .before .before .vals .given
 
 returns : tie.Need-returns Inv-loop μ-loop
 unfolding placesFbm alongPlaces fbm2d₃₂
 returns c =
     let s = c .before .before .before .before .before .before .before .before .before .before .before .before .before in
     let l = c .before .before .before .before .before .loop in
-    let k : l .counter ≡ s .args .octaves = (let i : l .counter ≤ s .args .octaves = l .inv .0 in let t : s .args .octaves ≤ l .counter = c .before .before .before .before .loop-test .left in omega arith) in
+    let k : l .counter ≡ s .args .octaves =
+    (let i : l .counter ≤ s .args .octaves = l .inv .0 in let t : s .args .octaves ≤ l .counter = c .before .before .before .before .loop-test .left in omega arith) in
     passed-all (s .args .n) (alongPlaces (s .args .xs .now) (s .args .ys .now)) (l .counter) (s .args .octaves) (l .vals) _ (l .amp) (l .freq) (l .max) (s .pre .0) k (l .inv .2) (c .before .before .divide .ensures)
 
 pub fbm-places-spec : {M : Type 1} → statement M

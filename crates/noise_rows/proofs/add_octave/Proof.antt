@@ -27,19 +27,35 @@ smooth-requires : tie.Need-smooth-requires Inv-loop μ-loop
 smooth-requires c κs = search needs
 
 loop-holds : tie.Need-loop-holds Inv-loop μ-loop
-loop-holds c = let s = c .before .before .before .before .before .before .before in (omega arith, added-none (noiseAt (s .args .base) (s .args .floors .now) (s .args .eases .now) (mul binary32 (s .args .y) (s .args .freq))) (s .args .amp) 0 (s .args .vals .now))
+loop-holds c =
+    let s = c .before .before .before .before .before .before .before in
+    (omega arith, added-none (noiseAt (s .args .base) (s .args .floors .now) (s .args .eases .now) (mul binary32 (s .args .y) (s .args .freq))) (s .args .amp) 0 (s .args .vals .now))
 
 run-end-requires : tie.Need-run-end-requires Inv-loop μ-loop
 run-end-requires c κs = let p = c .before .before .before .before .before .before .before .before .before .pre in (c .loop-test .taken, p .0, p .1, p .2)
 
 add-of-bits : tie.Need-add-of-bits Inv-loop μ-loop
-add-of-bits c = let p = c .before .before .before .before .before .before .before .before .before .before .pre in let b = p .0 in let d = p .1 in let t = c .before .loop-test .taken in omega arith
+add-of-bits c =
+    let p = c .before .before .before .before .before .before .before .before .before .before .pre in
+    let b = p .0 in
+    let d = p .1 in
+    let t = c .before .loop-test .taken in
+    omega arith
 
 mul-of-bits : tie.Need-mul-of-bits Inv-loop μ-loop
-mul-of-bits c = let p = c .before .before .before .before .before .before .before .before .before .before .pre in let b = p .0 in let d = p .1 in let t = c .before .loop-test .taken in omega arith
+mul-of-bits c =
+    let p = c .before .before .before .before .before .before .before .before .before .before .pre in
+    let b = p .0 in
+    let d = p .1 in
+    let t = c .before .loop-test .taken in
+    omega arith
 
 shared-slice-read-of-bits : tie.Need-shared-slice-read-of-bits Inv-loop μ-loop
-shared-slice-read-of-bits c = let p = c .before .before .before .before .before .before .before .before .before .before .before .pre in let b = p .2 in let t = c .before .before .loop-test .taken in omega arith
+shared-slice-read-of-bits c =
+    let p = c .before .before .before .before .before .before .before .before .before .before .before .pre in
+    let b = p .2 in
+    let t = c .before .before .loop-test .taken in
+    omega arith
 
 of-bits-requires : tie.Need-of-bits-requires Inv-loop μ-loop
 of-bits-requires c κs = search needs
@@ -59,7 +75,11 @@ add-run-requires c κs =
     (omega arith, omega arith, p .1, omega arith, omega arith)
 
 loop-less : tie.Need-loop-less Inv-loop μ-loop
-loop-less c = let a = c .before .before .before .before .before .before .before .run-end .ensures .above in let m = c .before .before .before .before .before .before .before .run-end .ensures .most in let t = c .before .before .before .before .before .before .before .before .loop-test .taken in omega arith
+loop-less c =
+    let a = c .before .before .before .before .before .before .before .run-end .ensures .above in
+    let m = c .before .before .before .before .before .before .before .run-end .ensures .most in
+    let t = c .before .before .before .before .before .before .before .before .loop-test .taken in
+    omega arith
 
 loop-again : tie.Need-loop-again Inv-loop μ-loop
 unfolding ease₃₂
@@ -69,8 +89,12 @@ loop-again c =
     let r = c .before .before .before .before .before .before .before .run-end .ensures in
     let v = mul binary32 (s .args .y) (s .args .freq) in
     let py = c .before .before .before .before .before .before .before .before .before .before .before .before .before .floor-part .ensures in
-    let fy = c .before .before .before .before .before .before .before .before .before .before .before .smooth .ensures ∙ ap (λ (u : Float). smooth₃₂ (sub binary32 v u)) (py .1) in
-    let k = c .before .before .before .before .square-at .ensures ∙ ap₂ squareOf (read w32 (c .before .before .before .before .before .of-bits .ok) (c .before .before .before .before .before .of-bits .ensures)) (floor-again v (py .0)) in (
+    let fy =
+    c .before .before .before .before .before .before .before .before .before .before .before .smooth .ensures
+    ∙ ap (λ (u : Float). smooth₃₂ (sub binary32 v u)) (py .1) in
+    let k =
+    c .before .before .before .before .square-at .ensures
+    ∙ ap₂ squareOf (read w32 (c .before .before .before .before .before .of-bits .ok) (c .before .before .before .before .before .of-bits .ensures)) (floor-again v (py .0)) in (
       r .most,
       added-run (inSquare _ _ (s .args .base) (s .args .eases .now)) (noiseAt (s .args .base) (s .args .floors .now) (s .args .eases .now) v) (s .args .amp) 0 (l .i) (c .before .before .before .before .before .before .before .run-end .result) (s .args .vals .now) (l .vals) _ (omega arith) (let a = r .above in omega arith)
           (in-run _ _ v (s .args .base) (l .i) (s .args .n) (c .before .before .before .before .before .before .before .run-end .result) (s .args .floors .now) (s .args .eases .now) k fy r) (l .inv .1) (c .before .before .add-run .ensures),
@@ -80,7 +104,12 @@ same-length : tie.Need-same-length Inv-loop μ-loop
 same-length c = c .before .loop .inv .1 .long
 
 returns : tie.Need-returns Inv-loop μ-loop
-returns c = let s = c .before .before .before .before .before .before .before .before .before in let l = c .before .loop in let h : l .i ≤ s .args .n = l .inv .0 in let e : l .i ≡ s .args .n = (let t = c .loop-test .left in omega arith) in rw e at (l .inv .1)
+returns c =
+    let s = c .before .before .before .before .before .before .before .before .before in
+    let l = c .before .loop in
+    let h : l .i ≤ s .args .n = l .inv .0 in
+    let e : l .i ≡ s .args .n = (let t = c .loop-test .left in omega arith) in
+    rw e at (l .inv .1)
 
 pub add-octave-spec : {M : Type 1} → statement M
 add-octave-spec =

@@ -17,13 +17,22 @@ abbrev μ-loop : tie.MeasureT-loop
 μ-loop k fy amp base lo hi eases vals₀ i₀ vals i = hi - i
 
 loop-holds : tie.Need-loop-holds Inv-loop μ-loop
-loop-holds c = let s = c .before .before in let p = s .pre in let l = p .0 in (omega arith, omega arith, added-none (inSquare (s .args .k) (s .args .fy) (s .args .base) (s .args .eases .now)) (s .args .amp) (s .args .lo) (s .args .vals .now))
+loop-holds c =
+    let s = c .before .before in
+    let p = s .pre in
+    let l = p .0 in
+    (omega arith, omega arith, added-none (inSquare (s .args .k) (s .args .fy) (s .args .base) (s .args .eases .now)) (s .args .amp) (s .args .lo) (s .args .vals .now))
 
 mul-vals : tie.Need-mul-vals Inv-loop μ-loop
 mul-vals c = let p = c .before .before .before .before .pre in let t = c .loop-test .taken in let b = p .1 in omega arith
 
 slice-read-vals : tie.Need-slice-read-vals Inv-loop μ-loop
-slice-read-vals c = let p = c .before .before .before .before .before .pre in let t = c .before .loop-test .taken in let b = p .4 in let e = c .before .before .loop .inv .2 .long in omega arith
+slice-read-vals c =
+    let p = c .before .before .before .before .before .pre in
+    let t = c .before .loop-test .taken in
+    let b = p .4 in
+    let e = c .before .before .loop .inv .2 .long in
+    omega arith
 
 add-between : tie.Need-add-between Inv-loop μ-loop
 add-between c = let p = c .before .before .before .before .before .pre in let t = c .before .loop-test .taken in let b = p .1 in let d = p .2 in omega arith
@@ -32,19 +41,36 @@ mul-between : tie.Need-mul-between Inv-loop μ-loop
 mul-between c = let p = c .before .before .before .before .before .pre in let t = c .before .loop-test .taken in let b = p .1 in let d = p .2 in omega arith
 
 shared-slice-read-between : tie.Need-shared-slice-read-between Inv-loop μ-loop
-shared-slice-read-between c = let p = c .before .before .before .before .before .before .pre in let t = c .before .before .loop-test .taken in let b = p .3 in omega arith
+shared-slice-read-between c =
+    let p = c .before .before .before .before .before .before .pre in
+    let t = c .before .before .loop-test .taken in
+    let b = p .3 in
+    omega arith
 
 between-requires : tie.Need-between-requires Inv-loop μ-loop
 between-requires c κs = search needs
 
 mul-vals-2 : tie.Need-mul-vals-2 Inv-loop μ-loop
-mul-vals-2 c = let p = c .before .before .before .before .before .before .before .pre in let t = c .before .before .before .loop-test .taken in let b = p .1 in omega arith
+mul-vals-2 c =
+    let p = c .before .before .before .before .before .before .before .pre in
+    let t = c .before .before .before .loop-test .taken in
+    let b = p .1 in
+    omega arith
 
 slice-write-vals : tie.Need-slice-write-vals Inv-loop μ-loop
-slice-write-vals c = let p = c .before .before .before .before .before .before .before .pre in let t = c .before .before .before .loop-test .taken in let b = p .4 in let e = c .before .before .before .before .loop .inv .2 .long in omega arith
+slice-write-vals c =
+    let p = c .before .before .before .before .before .before .before .pre in
+    let t = c .before .before .before .loop-test .taken in
+    let b = p .4 in
+    let e = c .before .before .before .before .loop .inv .2 .long in
+    omega arith
 
 add-i : tie.Need-add-i Inv-loop μ-loop
-add-i c = let p = c .before .before .before .before .before .before .before .pre in let t = c .before .before .before .loop-test .taken in let b = p .1 in omega arith
+add-i c =
+    let p = c .before .before .before .before .before .before .before .pre in
+    let t = c .before .before .before .loop-test .taken in
+    let b = p .1 in
+    omega arith
 
 loop-less : tie.Need-loop-less Inv-loop μ-loop
 loop-less c = let t = c .before .before .before .loop-test .taken in omega arith
@@ -63,7 +89,12 @@ same-length : tie.Need-same-length Inv-loop μ-loop
 same-length c = c .before .loop .inv .2 .long
 
 returns : tie.Need-returns Inv-loop μ-loop
-returns c = let s = c .before .before .before .before in let l = c .before .loop in let h : l .i ≤ s .args .hi = l .inv .1 in let e : l .i ≡ s .args .hi = (let t = c .loop-test .left in omega arith) in rw e at (l .inv .2)
+returns c =
+    let s = c .before .before .before .before in
+    let l = c .before .loop in
+    let h : l .i ≤ s .args .hi = l .inv .1 in
+    let e : l .i ≡ s .args .hi = (let t = c .loop-test .left in omega arith) in
+    rw e at (l .inv .2)
 
 pub add-run-spec : {M : Type 1} → statement M
 add-run-spec =

@@ -38,7 +38,9 @@ same-length : tie.Need-same-length Inv-loop μ-loop
 same-length c = c .before .loop .inv .1 .same
 
 returns : tie.Need-returns Inv-loop μ-loop
-returns c = let l = c .before .loop in end zeroAt (c .before .before .args .vals .now) (l .vals) (l .i) (c .before .before .args .n) (l .inv .1) (c .loop-test .left) (c .before .before .pre .1)
+returns c =
+    let l = c .before .loop in
+    end zeroAt (c .before .before .args .vals .now) (l .vals) (l .i) (c .before .before .args .n) (l .inv .1) (c .loop-test .left) (c .before .before .pre .1)
 
 pub clear-spec : {M : Type 1} → statement M
 clear-spec =

@@ -49,7 +49,10 @@ add-at c =
     omega arith
 
 add-counter : tie.Need-add-counter Inv-loop μ-loop
-add-counter c = let t = c .before .before .before .before .loop-test .taken in let o = c .before .before .before .before .before .before .before .before .before .before .before .before .before .pre .1 in omega arith
+add-counter c =
+    let t = c .before .before .before .before .loop-test .taken in
+    let o = c .before .before .before .before .before .before .before .before .before .before .before .before .before .pre .1 in
+    omega arith
 
 loop-less : tie.Need-loop-less Inv-loop μ-loop
 loop-less c = let t = c .before .before .before .before .loop-test .taken in omega arith
@@ -66,14 +69,16 @@ divide-requires : tie.Need-divide-requires Inv-loop μ-loop
 divide-requires c κs = (c .before .before .before .before .before .before .before .before .before .before .pre .2, c .before .before .loop .inv .2 .long)
 
 same-length : tie.Need-same-length Inv-loop μ-loop
-same-length c = c .before .vals3 .given ∙ c .before .before .before .before .before .loop .inv .1 ∙ c .before .before .before .before .before .before .before .vals .given
+same-length c =
+    c .before .vals3 .given ∙ c .before .before .before .before .before .loop .inv .1 ∙ c .before .before .before .before .before .before .before .vals .given
 
 returns : tie.Need-returns Inv-loop μ-loop
 returns c =
     let s = c .before .before .before .before .before .before .before .before .before .before .before .before .before in
     let a = s .args in
     let l = c .before .before .before .before .before .loop in
-    let k : l .counter ≡ a .octaves = (let i : l .counter ≤ a .octaves = l .inv .0 in let t : a .octaves ≤ l .counter = c .before .before .before .before .loop-test .left in omega arith) in
+    let k : l .counter ≡ a .octaves =
+    (let i : l .counter ≤ a .octaves = l .inv .0 in let t : a .octaves ≤ l .counter = c .before .before .before .before .loop-test .left in omega arith) in
     going-all (a .y) (a .octaves) (a .base) (a .n) (a .floors .now) (a .eases .now) (l .counter) (l .vals) _ (l .amp) (l .freq) (l .max) (l .at) (s .pre .0) k (l .inv .2) (c .before .before .divide .ensures)
 
 pub fbm-row-spec : {M : Type 1} → statement M

@@ -46,7 +46,9 @@ loop-less : tie.Need-loop-less Inv-loop μ-loop
 loop-less c = let t = c .before .before .loop-test .taken in omega arith
 
 loop-again : tie.Need-loop-again Inv-loop μ-loop
-loop-again c = let s = c .before .before .before .before .before in run-more (s .args .base) (s .args .lo) (s .args .n) (c .before .before .before .loop .i) (s .args .floors .now) (c .before .before .loop-test .taken) (c .if1 .left) (c .before .before .before .loop .inv)
+loop-again c =
+    let s = c .before .before .before .before .before in
+    run-more (s .args .base) (s .args .lo) (s .args .n) (c .before .before .before .loop .i) (s .args .floors .now) (c .before .before .loop-test .taken) (c .if1 .left) (c .before .before .before .loop .inv)
 
 returns-2 : tie.Need-returns-2 Inv-loop μ-loop
 returns-2 c = c .before .loop .inv

@@ -14,7 +14,9 @@ use Rattle.noise_vectors.proofs.float.Lts as lts
 
 -- src/main.rt:13:41
 float-from-bits-result : tie.Need-float-from-bits-result
-float-from-bits-result c = let n = c .before .args .n in subst (λ (b : Bool). T (not b)) (sym (nanBits-above binary32 n ∙ le-ltb 2139095040 (n % 2147483648) (c .if1 .taken))) tt
+float-from-bits-result c =
+    let n = c .before .args .n in
+    subst (λ (b : Bool). T (not b)) (sym (nanBits-above binary32 n ∙ le-ltb 2139095040 (n % 2147483648) (c .if1 .taken))) tt
 
 -- src/main.rt:12:1
 returns : tie.Need-returns

@@ -42,26 +42,32 @@ module _ (c : tie.After-slice-known6) where
       piece (line3 (c .before .before .before .before)) 21 (field-short (c .before .before .before .before .before .before .before .before .before .before .before .before .before .before .before .before .before .before .before .before .before .before .args .trailing) (omega arith)) (let h = c .before .before .before .before .before .before .before .before .before .before .before .before .before .before .before .before .before .before .before .before .before .before .pre in omega arith) (c .before .before .put-field4 .ensures)
 
 put-field-requires : tie.Need-put-field-requires
-put-field-requires c κs = piece-fits (line0 (c .before)) (9 ∷ decimal (c .before .before .before .before .before .before .before .args .lines)) 21 (field-short (c .before .before .before .before .before .before .before .args .lines) (omega arith)) (let h = c .before .before .before .before .before .before .before .pre in omega arith)
+put-field-requires c κs =
+    piece-fits (line0 (c .before)) (9 ∷ decimal (c .before .before .before .before .before .before .before .args .lines)) 21 (field-short (c .before .before .before .before .before .before .before .args .lines) (omega arith)) (let h = c .before .before .before .before .before .before .before .pre in omega arith)
 
 put-field-requires-2 : tie.Need-put-field-requires-2
-put-field-requires-2 c κs = piece-fits (line1 (c .before)) (9 ∷ decimal (c .before .before .before .before .before .before .before .before .before .before .before .args .active)) 21 (field-short (c .before .before .before .before .before .before .before .before .before .before .before .args .active) (omega arith)) (let h = c .before .before .before .before .before .before .before .before .before .before .before .pre in omega arith)
+put-field-requires-2 c κs =
+    piece-fits (line1 (c .before)) (9 ∷ decimal (c .before .before .before .before .before .before .before .before .before .before .before .args .active)) 21 (field-short (c .before .before .before .before .before .before .before .before .before .before .before .args .active) (omega arith)) (let h = c .before .before .before .before .before .before .before .before .before .before .before .pre in omega arith)
 
 put-field-requires-3 : tie.Need-put-field-requires-3
-put-field-requires-3 c κs = piece-fits (line2 (c .before)) (9 ∷ decimal (c .before .before .before .before .before .before .before .before .before .before .before .before .before .before .before .args .count)) 21 (field-short (c .before .before .before .before .before .before .before .before .before .before .before .before .before .before .before .args .count) (omega arith)) (let h = c .before .before .before .before .before .before .before .before .before .before .before .before .before .before .before .pre in omega arith)
+put-field-requires-3 c κs =
+    piece-fits (line2 (c .before)) (9 ∷ decimal (c .before .before .before .before .before .before .before .before .before .before .before .before .before .before .before .args .count)) 21 (field-short (c .before .before .before .before .before .before .before .before .before .before .before .before .before .before .before .args .count) (omega arith)) (let h = c .before .before .before .before .before .before .before .before .before .before .before .before .before .before .before .pre in omega arith)
 
 put-field-requires-4 : tie.Need-put-field-requires-4
-put-field-requires-4 c κs = piece-fits (line3 (c .before)) (9 ∷ decimal (c .before .before .before .before .before .before .before .before .before .before .before .before .before .before .before .before .before .before .before .args .trailing)) 21 (field-short (c .before .before .before .before .before .before .before .before .before .before .before .before .before .before .before .before .before .before .before .args .trailing) (omega arith)) (let h = c .before .before .before .before .before .before .before .before .before .before .before .before .before .before .before .before .before .before .before .pre in omega arith)
+put-field-requires-4 c κs =
+    piece-fits (line3 (c .before)) (9 ∷ decimal (c .before .before .before .before .before .before .before .before .before .before .before .before .before .before .before .before .before .before .before .args .trailing)) 21 (field-short (c .before .before .before .before .before .before .before .before .before .before .before .before .before .before .before .before .before .before .before .args .trailing) (omega arith)) (let h = c .before .before .before .before .before .before .before .before .before .before .before .before .before .before .before .before .before .before .before .pre in omega arith)
 
 put-byte-requires : tie.Need-put-byte-requires
-put-byte-requires c κs = piece-fits (line4 (c .before)) (10 ∷ []) 1 (omega arith) (let h = c .before .before .before .before .before .before .before .before .before .before .before .before .before .before .before .before .before .before .before .before .before .before .before .pre in omega arith)
+put-byte-requires c κs =
+    piece-fits (line4 (c .before)) (10 ∷ []) 1 (omega arith) (let h = c .before .before .before .before .before .before .before .before .before .before .before .before .before .before .before .before .before .before .before .before .before .before .before .pre in omega arith)
 
 same-length : tie.Need-same-length
 same-length c = search needs
 
 returns : tie.Need-returns
 returns c =
-    let g = piece (line4 (c .before .before .before .before)) 1 (omega arith) (let h = c .before .before .before .before .before .before .before .before .before .before .before .before .before .before .before .before .before .before .before .before .before .before .before .before .before .before .pre in omega arith) (c .before .before .put-byte .ensures) in (
+    let g =
+    piece (line4 (c .before .before .before .before)) 1 (omega arith) (let h = c .before .before .before .before .before .before .before .before .before .before .before .before .before .before .before .before .before .before .before .before .before .before .before .before .before .before .pre in omega arith) (c .before .before .put-byte .ensures) in (
       as-text (ok-is (c .before .before .before .before .before .before .before .before .before .before .before .before .before .before .before .before .before .before .before .before .before .before .before .before .before .before .args .lines) (c .before .before .before .before .before .before .before .before .before .before .before .before .before .before .before .before .before .before .before .before .before .before .before .before .before .before .args .active) (c .before .before .before .before .before .before .before .before .before .before .before .before .before .before .before .before .before .before .before .before .before .before .before .before .before .before .args .count) (c .before .before .before .before .before .before .before .before .before .before .before .before .before .before .before .before .before .before .before .before .before .before .before .before .before .before .args .trailing)) (g .text),
       ok-short (c .before .before .before .before .before .before .before .before .before .before .before .before .before .before .before .before .before .before .before .before .before .before .before .before .before .before .args .lines) (c .before .before .before .before .before .before .before .before .before .before .before .before .before .before .before .before .before .before .before .before .before .before .before .before .before .before .args .active) (c .before .before .before .before .before .before .before .before .before .before .before .before .before .before .before .before .before .before .before .before .before .before .before .before .before .before .args .count) (c .before .before .before .before .before .before .before .before .before .before .before .before .before .before .before .before .before .before .before .before .before .before .before .before .before .before .args .trailing) (omega arith) (omega arith) (omega arith) (omega arith),
     )

@@ -13,7 +13,8 @@ use Rattle.print_lines.proofs.put_parted.Tie as tie
 put-number-requires : tie.Need-put-number-requires
 put-number-requires c κs =
     let s = c .before .before .before in
-    let e : length (parted (s .args .x) (decimal (s .args .n))) ≡ length (decimal (s .args .n)) = ap length (parted-first (s .args .x) (decimal (s .args .n)) (c .before .if1 .taken)) in
+    let e : length (parted (s .args .x) (decimal (s .args .n))) ≡ length (decimal (s .args .n)) =
+    ap length (parted-first (s .args .x) (decimal (s .args .n)) (c .before .if1 .taken)) in
     let h = s .pre in
     omega arith
 
@@ -28,7 +29,8 @@ returns c =
 put-field-requires : tie.Need-put-field-requires
 put-field-requires c κs =
     let s = c .before .before .before in
-    let e : length (parted (s .args .x) (decimal (s .args .n))) ≡ length (9 ∷ decimal (s .args .n)) = ap length (parted-later (s .args .x) (decimal (s .args .n)) (c .before .if1 .left)) in
+    let e : length (parted (s .args .x) (decimal (s .args .n))) ≡ length (9 ∷ decimal (s .args .n)) =
+    ap length (parted-later (s .args .x) (decimal (s .args .n)) (c .before .if1 .left)) in
     let h = s .pre in
     omega arith
 

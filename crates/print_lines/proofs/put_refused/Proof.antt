@@ -32,20 +32,24 @@ module _ (c : tie.After-slice-known4) where
       piece (line1 (c .before .before .before .before)) 21 (field-short (c .before .before .before .before .before .before .before .before .before .before .before .before .before .before .args .line) (omega arith)) (let h = c .before .before .before .before .before .before .before .before .before .before .before .before .before .before .pre in omega arith) (c .before .before .put-field2 .ensures)
 
 put-field-requires : tie.Need-put-field-requires
-put-field-requires c κs = piece-fits (line0 (c .before)) (9 ∷ decimal (c .before .before .before .before .before .before .before .args .number)) 21 (field-short (c .before .before .before .before .before .before .before .args .number) (omega arith)) (let h = c .before .before .before .before .before .before .before .pre in omega arith)
+put-field-requires c κs =
+    piece-fits (line0 (c .before)) (9 ∷ decimal (c .before .before .before .before .before .before .before .args .number)) 21 (field-short (c .before .before .before .before .before .before .before .args .number) (omega arith)) (let h = c .before .before .before .before .before .before .before .pre in omega arith)
 
 put-field-requires-2 : tie.Need-put-field-requires-2
-put-field-requires-2 c κs = piece-fits (line1 (c .before)) (9 ∷ decimal (c .before .before .before .before .before .before .before .before .before .before .before .args .line)) 21 (field-short (c .before .before .before .before .before .before .before .before .before .before .before .args .line) (omega arith)) (let h = c .before .before .before .before .before .before .before .before .before .before .before .pre in omega arith)
+put-field-requires-2 c κs =
+    piece-fits (line1 (c .before)) (9 ∷ decimal (c .before .before .before .before .before .before .before .before .before .before .before .args .line)) 21 (field-short (c .before .before .before .before .before .before .before .before .before .before .before .args .line) (omega arith)) (let h = c .before .before .before .before .before .before .before .before .before .before .before .pre in omega arith)
 
 put-byte-requires : tie.Need-put-byte-requires
-put-byte-requires c κs = piece-fits (line2 (c .before)) (10 ∷ []) 1 (omega arith) (let h = c .before .before .before .before .before .before .before .before .before .before .before .before .before .before .before .pre in omega arith)
+put-byte-requires c κs =
+    piece-fits (line2 (c .before)) (10 ∷ []) 1 (omega arith) (let h = c .before .before .before .before .before .before .before .before .before .before .before .before .before .before .before .pre in omega arith)
 
 same-length : tie.Need-same-length
 same-length c = search needs
 
 returns : tie.Need-returns
 returns c =
-    let g = piece (line2 (c .before .before .before .before)) 1 (omega arith) (let h = c .before .before .before .before .before .before .before .before .before .before .before .before .before .before .before .before .before .before .pre in omega arith) (c .before .before .put-byte .ensures) in
+    let g =
+    piece (line2 (c .before .before .before .before)) 1 (omega arith) (let h = c .before .before .before .before .before .before .before .before .before .before .before .before .before .before .before .before .before .before .pre in omega arith) (c .before .before .put-byte .ensures) in
     as-text (no-is (c .before .before .before .before .before .before .before .before .before .before .before .before .before .before .before .before .before .before .args .number) (c .before .before .before .before .before .before .before .before .before .before .before .before .before .before .before .before .before .before .args .line)) (g .text)
 
 pub put-refused-spec : {M : Type 1} → statement M

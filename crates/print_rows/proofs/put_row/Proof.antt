@@ -42,8 +42,10 @@ put-parted-requires : tie.Need-put-parted-requires Inv-loop μ-loop
 put-parted-requires c κs =
     let s = c .before .before .before .before .before .before in
     let l = c .before .before .before .loop in
-    let e : length (parted (l .x) (decimal (c .see .result))) ≡ length (idText (s .args .size) (s .args .cells .now) (s .args .z) (s .args .y) (l .x)) = ap length (id-is (s .args .size) (s .args .cells .now) (s .args .z) (s .args .y) (l .x) (c .see .result) (c .see .ensures)) in
-    let h = loops.fits-next (s .args .out .now) (s .args .at) (s .args .size) (idText (s .args .size) (s .args .cells .now) (s .args .z) (s .args .y)) (space s) (l .x) (l .p) (l .out) (omega arith) (l .inv .1) in
+    let e : length (parted (l .x) (decimal (c .see .result))) ≡ length (idText (s .args .size) (s .args .cells .now) (s .args .z) (s .args .y) (l .x)) =
+    ap length (id-is (s .args .size) (s .args .cells .now) (s .args .z) (s .args .y) (l .x) (c .see .result) (c .see .ensures)) in
+    let h =
+    loops.fits-next (s .args .out .now) (s .args .at) (s .args .size) (idText (s .args .size) (s .args .cells .now) (s .args .z) (s .args .y)) (space s) (l .x) (l .p) (l .out) (omega arith) (l .inv .1) in
     omega arith
 
 add-x : tie.Need-add-x Inv-loop μ-loop
@@ -70,7 +72,8 @@ put-byte-requires c κs =
     let k = ap (λ (n : ℕ). length (each n (idText (s .args .size) (s .args .cells .now) (s .args .z) (s .args .y)))) e in
     let b = l .inv .1 .behind in
     let a = all s in
-    let g = loops.keeps (s .args .out .now) (s .args .at) (s .args .size) (idText (s .args .size) (s .args .cells .now) (s .args .z) (s .args .y)) (space s) (l .x) (l .p) (l .out) (omega arith) (l .inv .1) in
+    let g =
+    loops.keeps (s .args .out .now) (s .args .at) (s .args .size) (idText (s .args .size) (s .args .cells .now) (s .args .z) (s .args .y)) (space s) (l .x) (l .p) (l .out) (omega arith) (l .inv .1) in
     omega arith
 
 returns : tie.Need-returns Inv-loop μ-loop

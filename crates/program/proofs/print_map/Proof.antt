@@ -37,7 +37,8 @@ array-share-prefix-text : tie.Need-array-share-prefix-text
 array-share-prefix-text c = within (c .before .before)
 
 slice-aggregate-write-all : tie.Need-slice-aggregate-write-all
-slice-aggregate-write-all c = sym (length-take-le (c .before .before .before .report .result) (c .before .before .before .report .last .1 .1 .1 .0) (within (c .before .before .before)))
+slice-aggregate-write-all c =
+    sym (length-take-le (c .before .before .before .report .result) (c .before .before .before .report .last .1 .1 .1 .0) (within (c .before .before .before)))
 
 write-all-requires : tie.Need-write-all-requires
 write-all-requires c κs = search needs

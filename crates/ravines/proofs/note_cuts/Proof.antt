@@ -32,9 +32,14 @@ same-length-2 c = search needs
 returns : tie.Need-returns
 unfolding nearest ofBits
 returns c =
-    let s = c .before .before .before .before .before .before .before .before .before .before .before .before .before .before .before .before in
-    let w = c .before .before .before .before .before .before .before .before .before .of-i32 .ensures ∙ ap (ofInt binary32) (read w32 (c .before .before .before .before .before .before .before .before .before .before .along .ok) (c .before .before .before .before .before .before .before .before .before .before .along .ensures ∙ ap (λ (u : ℤ). u +ℤ pos (s .args .z)) (back (s .args .f .oz) (s .pre .0 .z)))) in
-    cuts-are (s .args .f) (s .args .z) (s .args .floors .now) (s .args .eases .now) _ _ _ w (s .pre .2) (c .before .before .before .before .before .before .before .fbm-row .ensures) (c .before .before .cut-row .ensures)
+    let c7 = c .before .before .before .before .before .before .before in
+    let c9 = c7 .before .before in
+    let c10 = c9 .before in
+    let s = c10 .before .before .before .before .before .before in
+    let w =
+    c9 .of-i32 .ensures
+    ∙ ap (ofInt binary32) (read w32 (c10 .along .ok) (c10 .along .ensures ∙ ap (λ (u : ℤ). u +ℤ pos (s .args .z)) (back (s .args .f .oz) (s .pre .0 .z)))) in
+    cuts-are (s .args .f) (s .args .z) (s .args .floors .now) (s .args .eases .now) _ _ _ w (s .pre .2) (c7 .fbm-row .ensures) (c .before .before .cut-row .ensures)
 
 pub note-cuts-spec : {M : Type 1} → statement M
 note-cuts-spec =

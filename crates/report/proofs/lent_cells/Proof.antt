@@ -21,7 +21,8 @@ enum-known-opening : tie.Need-enum-known-opening
 enum-known-opening c = search needs
 
 lent-for-requires : tie.Need-lent-for-requires
-lent-for-requires c κs = opening-facts (c .before .before .before .before .before .before .before .args .journal .now) (c .before .before .before .before .before .before .before .args .held) _ _ _ (sym (c .before .before .before .before .open-journal .ensures) ∙ c .before .opening .given .1) .limits
+lent-for-requires c κs =
+    opening-facts (c .before .before .before .before .before .before .before .args .journal .now) (c .before .before .before .before .before .before .before .args .held) _ _ _ (sym (c .before .before .before .before .open-journal .ensures) ∙ c .before .opening .given .1) .limits
 
 returns : tie.Need-returns
 unfolding lentCells
@@ -30,7 +31,8 @@ returns c = (sym (ap lentBy (sym (c .before .before .before .open-journal .ensur
 returns-2 : tie.Need-returns-2
 unfolding lentCells
 returns-2 c =
-    let e : lentCells (c .before .before .before .before .before .before .before .before .args .journal .now) (c .before .before .before .before .before .before .before .before .args .held) ≡ c .lent-for .result = ap lentBy (sym (c .before .before .before .before .before .open-journal .ensures) ∙ c .before .before .opening .given .1) ∙ sym (c .lent-for .ensures) in
+    let e : lentCells (c .before .before .before .before .before .before .before .before .args .journal .now) (c .before .before .before .before .before .before .before .before .args .held) ≡ c .lent-for .result =
+    ap lentBy (sym (c .before .before .before .before .before .open-journal .ensures) ∙ c .before .before .opening .given .1) ∙ sym (c .lent-for .ensures) in
     (sym e, lent-most (c .before .before .opening .given .0 .0) (c .lent-for .result) (c .lent-for .ensures))
 
 pub lent-cells-spec : {M : Type 1} → statement M

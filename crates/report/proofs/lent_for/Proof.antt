@@ -34,13 +34,15 @@ cast-size c =
 mul-result : tie.Need-mul-result
 mul-result c =
     let k : natAbs (toZ w64 (ofZ w64 (c .before .before .before .args .header .«chunk_size»))) ≤ 16 = c .if1 .taken in
-    let m : natAbs (toZ w64 (ofZ w64 (c .before .before .before .args .header .«chunk_size»))) * natAbs (toZ w64 (ofZ w64 (c .before .before .before .args .header .«chunk_size»))) ≤ 16 * 16 = mul-le-mul k k in
+    let m : natAbs (toZ w64 (ofZ w64 (c .before .before .before .args .header .«chunk_size»))) * natAbs (toZ w64 (ofZ w64 (c .before .before .before .args .header .«chunk_size»))) ≤ 16 * 16 =
+    mul-le-mul k k in
     record { fits = omega arith }
 
 mul-result-2 : tie.Need-mul-result-2
 mul-result-2 c =
     let k : natAbs (toZ w64 (ofZ w64 (c .before .before .before .args .header .«chunk_size»))) ≤ 16 = c .if1 .taken in
-    let m : natAbs (toZ w64 (ofZ w64 (c .before .before .before .args .header .«chunk_size»))) * natAbs (toZ w64 (ofZ w64 (c .before .before .before .args .header .«chunk_size»))) * natAbs (toZ w64 (ofZ w64 (c .before .before .before .args .header .«chunk_size»))) ≤ 16 * 16 * 16 = mul-le-mul (mul-le-mul k k) k in
+    let m : natAbs (toZ w64 (ofZ w64 (c .before .before .before .args .header .«chunk_size»))) * natAbs (toZ w64 (ofZ w64 (c .before .before .before .args .header .«chunk_size»))) * natAbs (toZ w64 (ofZ w64 (c .before .before .before .args .header .«chunk_size»))) ≤ 16 * 16 * 16 =
+    mul-le-mul (mul-le-mul k k) k in
     record { fits = omega arith }
 
 returns : tie.Need-returns

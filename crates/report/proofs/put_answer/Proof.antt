@@ -34,7 +34,8 @@ put-map-requires c κs =
     let room = s .pre .space in
     let all = cube .all in
     let most = size-most (sizeOf (g .0 .0)) (omega arith) in
-    let m = map-length (sizeOf (g .0 .0)) (s .args .cells .now) (λ i. omega (arith, c .before .before .before .before .before .before .before .before .before .shared-slice-known .given i)) most in
+    let m =
+    map-length (sizeOf (g .0 .0)) (s .args .cells .now) (λ i. omega (arith, c .before .before .before .before .before .before .before .before .before .shared-slice-known .given i)) most in
     let e = c .before .before .before .put-opened .ensures in
     let k = e .1 in
     let b = e .0 .behind in

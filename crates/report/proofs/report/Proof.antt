@@ -12,10 +12,13 @@ use Rattle.report.proofs.report.Statement.{statement}
 use Rattle.report.proofs.report.Tie as tie
 
 returns : tie.Need-returns
-returns c = few-cells (c .before .before .before .before .args .journal .now) (c .before .before .before .before .args .held) (c .before .before .before .before .args .cells .now) (c .before .before .before .before .args .out .now) (c .if1 .taken)
+returns c =
+    few-cells (c .before .before .before .before .args .journal .now) (c .before .before .before .before .args .held) (c .before .before .before .before .args .cells .now) (c .before .before .before .before .args .out .now) (c .if1 .taken)
 
 returns-2 : tie.Need-returns-2
-returns-2 c = few-bytes (c .before .before .before .before .before .args .journal .now) (c .before .before .before .before .before .args .held) (c .before .before .before .before .before .args .cells .now) (c .before .before .before .before .before .args .out .now) (c .before .if1 .left) (c .if2 .taken)
+returns-2 c =
+    let c5 = c .before .before .before .before .before in
+    few-bytes (c5 .args .journal .now) (c5 .args .held) (c5 .args .cells .now) (c5 .args .out .now) (c .before .if1 .left) (c .if2 .taken)
 
 lent-cells-requires : tie.Need-lent-cells-requires
 lent-cells-requires c κs = search needs
@@ -24,7 +27,8 @@ slice-relend-prefix-reopen : tie.Need-slice-relend-prefix-reopen
 slice-relend-prefix-reopen c = search needs
 
 slice-aggregate-reopen : tie.Need-slice-aggregate-reopen
-slice-aggregate-reopen c = sym (length-take-le (c .before .lent-cells .result) (c .before .before .before .before .before .before .before .args .cells .now) (let h = c .before .before .before .if1 .left in let k = c .before .lent-cells .ensures .1 in omega arith))
+slice-aggregate-reopen c =
+    sym (length-take-le (c .before .lent-cells .result) (c .before .before .before .before .before .before .before .args .cells .now) (let h = c .before .before .before .if1 .left in let k = c .before .lent-cells .ensures .1 in omega arith))
 
 reopen-requires : tie.Need-reopen-requires
 reopen-requires c κs = search needs
@@ -64,12 +68,17 @@ same-length-2 c = search needs
 
 returns-3 : tie.Need-returns-3
 returns-3 c =
-    let a = c .before .before .before .before .before .before .before .before .before .before .before .before .before .before .before .args in
-    let r = c .before .before .before .before .before .before .before .reopen in
-    let l = c .before .before .before .before .before .before .before .before .before .lent-cells in
+    let c7 = c .before .before .before .before .before .before .before in
+    let c9 = c7 .before .before in
+    let c10 = c9 .before in
+    let c11 = c10 .before in
+    let c15 = c11 .before .before .before .before in
+    let a = c15 .args in
+    let r = c7 .reopen in
+    let l = c9 .lent-cells in
     all-told (a .journal .now) (a .held) (a .cells .now) (a .out .now) (l .result) (r .result) (r .last .0) (c .before .before .put-answer .last .0) (c .before .before .put-answer .result)
-    (c .before .before .before .before .before .before .before .before .before .before .before .if1 .left) (c .before .before .before .before .before .before .before .before .before .before .if2 .left) (l .ensures .0) (r .ensures)
-    (as-text (ap (answerText (r .result)) (back (c .before .before .before .before .before .before .before))) (c .before .before .put-answer .ensures))
+    (c11 .if1 .left) (c10 .if2 .left) (l .ensures .0) (r .ensures)
+    (as-text (ap (answerText (r .result)) (back (c7))) (c .before .before .put-answer .ensures))
 
 pub report-spec : {M : Type 1} → statement M
 report-spec =

@@ -18,11 +18,15 @@ abbrev μ-loop : tie.MeasureT-loop
     o .size - y
 
 loop-holds : tie.Need-loop-holds Inv-loop μ-loop
-loop-holds c = let s = c .before .before .before .before .before .before .before .before .before .before .before in let e : s .args .z * s .args .o .size ≡ s .args .z * s .args .o .size + 0 = omega arith in (omega arith, subst (λ (u : ℕ). DoneTo (s .args .w) (s .args .o) u (s .args .cells .now)) e (s .pre .6), s .pre .4, refl, refl, refl, refl, refl)
+loop-holds c =
+    let s = c .before .before .before .before .before .before .before .before .before .before .before in
+    let e : s .args .z * s .args .o .size ≡ s .args .z * s .args .o .size + 0 = omega arith in
+    (omega arith, subst (λ (u : ℕ). DoneTo (s .args .w) (s .args .o) u (s .args .cells .now)) e (s .pre .6), s .pre .4, refl, refl, refl, refl, refl)
 
 mark-line-requires : tie.Need-mark-line-requires Inv-loop μ-loop
 mark-line-requires c κs =
-    let s = c .before .before .before .before .before .before .before .before .before .before .before .before .before .before .before .before .before .before .before in
+    let s =
+    c .before .before .before .before .before .before .before .before .before .before .before .before .before .before .before .before .before .before .before in
     let l = c .before .before .before .before .before .before .before .loop in
     let n = s .pre .5 in
     let a = n .first in
@@ -41,13 +45,35 @@ mark-line-requires c κs =
     )
 
 lay-line-requires : tie.Need-lay-line-requires Inv-loop μ-loop
-lay-line-requires c κs = let s = c .before .before .before .before .before .before .before .before .before .before .before .before .before .before .before .before .before .before .before .before .before .before .before .before .before .before .before .before .before .before .before .before in (s .pre .0, s .pre .1, c .before .before .before .before .before .before .before .before .before .before .before .before .before .before .before .before .before .before .if1 .taken, s .pre .2, s .pre .3, c .before .before .before .before .before .before .before .before .before .before .before .before .mark-line .ensures .1, c .before .before .before .before .before .before .before .before .before .before .before .before .before .before .before .before .before .before .before .before .loop .inv .1)
+lay-line-requires c κs =
+    let c12 = c .before .before .before .before .before .before .before .before .before .before .before .before in
+    let c18 = c12 .before .before .before .before .before .before in
+    let c20 = c18 .before .before in
+    let c32 = c20 .before .before .before .before .before .before .before .before .before .before .before .before in
+    let s = c32 in
+    (s .pre .0, s .pre .1, c18 .if1 .taken, s .pre .2, s .pre .3, c12 .mark-line .ensures .1, c20 .loop .inv .1)
 
 add-y : tie.Need-add-y Inv-loop μ-loop
-add-y c = let s = c .before .before .before .before .before .before .before .before .before .before .before .before .before .before .before .before .before .before .before .before .before .before .before .before .before .before .before .before .before .before .before .before .before .before .before in let l = c .before .before .before .before .before .before .before .before .before .before .before .before .before .before .before .before .before .before .before .before .before .before .before .loop in let m = s .pre .1 .most in let t : l .y < s .args .o .size = c .before .before .before .before .before .before .before .before .before .before .before .before .before .before .before .before .before .before .before .before .before .if1 .taken in omega arith
+add-y c =
+    let s =
+    c .before .before .before .before .before .before .before .before .before .before .before .before .before .before .before .before .before .before .before .before .before .before .before .before .before .before .before .before .before .before .before .before .before .before .before in
+    let l =
+    c .before .before .before .before .before .before .before .before .before .before .before .before .before .before .before .before .before .before .before .before .before .before .before .loop in
+    let m = s .pre .1 .most in
+    let t : l .y < s .args .o .size =
+    c .before .before .before .before .before .before .before .before .before .before .before .before .before .before .before .before .before .before .before .before .before .if1 .taken in
+    omega arith
 
 loop-less : tie.Need-loop-less Inv-loop μ-loop
-loop-less c = let s = c .before .before .before .before .before .before .before .before .before .before .before .before .before .before .before .before .before .before .before .before .before .before .before .before .before .before .before .before .before .before .before .before .before .before .before in let l = c .before .before .before .before .before .before .before .before .before .before .before .before .before .before .before .before .before .before .before .before .before .before .before .loop in let m = s .pre .1 .most in let t : l .y < s .args .o .size = c .before .before .before .before .before .before .before .before .before .before .before .before .before .before .before .before .before .before .before .before .before .if1 .taken in omega arith
+loop-less c =
+    let s =
+    c .before .before .before .before .before .before .before .before .before .before .before .before .before .before .before .before .before .before .before .before .before .before .before .before .before .before .before .before .before .before .before .before .before .before .before in
+    let l =
+    c .before .before .before .before .before .before .before .before .before .before .before .before .before .before .before .before .before .before .before .before .before .before .before .loop in
+    let m = s .pre .1 .most in
+    let t : l .y < s .args .o .size =
+    c .before .before .before .before .before .before .before .before .before .before .before .before .before .before .before .before .before .before .before .before .before .if1 .taken in
+    omega arith
 
 loop-again : tie.Need-loop-again Inv-loop μ-loop
 loop-again c = let s = c .before .before .before .before .before .before .before .before .before .before .before .before .before .before .before .before .before .before .before .before .before .before .before .before .before .before .before .before .before .before .before .before .before .before .before in let l = c .before .before .before .before .before .before .before .before .before .before .before .before .before .before .before .before .before .before .before .before .before .before .before .loop in let m = s .pre .1 .most in let t : l .y < s .args .o .size = c .before .before .before .before .before .before .before .before .before .before .before .before .before .before .before .before .before .before .before .before .before .if1 .taken in
@@ -78,10 +104,17 @@ same-length-5 : tie.Need-same-length-5 Inv-loop μ-loop
 same-length-5 c = c .before .before .loop .inv .7
 
 same-length-6 : tie.Need-same-length-6 Inv-loop μ-loop
-same-length-6 c = c .before .before .loop .inv .1 .all ∙ sym (c .before .before .before .before .before .before .before .before .before .before .before .before .before .before .pre .6 .all)
+same-length-6 c =
+    c .before .before .loop .inv .1 .all
+    ∙ sym (c .before .before .before .before .before .before .before .before .before .before .before .before .before .before .pre .6 .all)
 
 returns : tie.Need-returns Inv-loop μ-loop
-returns c = let s = c .before .before .before .before .before .before .before .before .before .before .before .before .before .before in let l = c .before .before .loop in let h : l .y ≤ s .args .o .size = l .inv .0 in let e : l .y ≡ s .args .o .size = (let t = c .if1 .left in omega arith) in subst (λ (u : ℕ). DoneTo (s .args .w) (s .args .o) (s .args .z * s .args .o .size + u) (l .cells)) e (l .inv .1)
+returns c =
+    let s = c .before .before .before .before .before .before .before .before .before .before .before .before .before .before in
+    let l = c .before .before .loop in
+    let h : l .y ≤ s .args .o .size = l .inv .0 in
+    let e : l .y ≡ s .args .o .size = (let t = c .if1 .left in omega arith) in
+    subst (λ (u : ℕ). DoneTo (s .args .w) (s .args .o) (s .args .z * s .args .o .size + u) (l .cells)) e (l .inv .1)
 
 pub lay-levels-spec : {M : Type 1} → statement M
 lay-levels-spec =

@@ -26,22 +26,35 @@ sub-below-level : tie.Need-sub-below-level
 sub-below-level c = search needs
 
 below-level-requires-2 : tie.Need-below-level-requires-2
-below-level-requires-2 c κs = let s = c .before .before .before .before .before .before .before .before .before .before .before .before .before .before .before in let m = c .before .before .before .row-top .ensures .most in (subst (λ (u : ℤ). mag u ≤ 1000000) (sym (back (s .args .o .oy) (s .pre .1 .y))) (s .pre .1 .y), omega arith)
+below-level-requires-2 c κs =
+    let s = c .before .before .before .before .before .before .before .before .before .before .before .before .before .before .before in
+    let m = c .before .before .before .row-top .ensures .most in
+    (subst (λ (u : ℤ). mag u ≤ 1000000) (sym (back (s .args .o .oy) (s .pre .1 .y))) (s .pre .1 .y), omega arith)
 
 begin-row-requires : tie.Need-begin-row-requires
-begin-row-requires c κs = let s = c .before .before .before .before .before .before .before .before .before .before .before .before .before .before .before .before .before .before .before in let n = s .pre .5 in (s .pre .1, subst (λ (u : ℕ). u ≤ s .args .o .size) (sym (c .before .before .before .below-level2 .ensures)) (below-most (s .args .o .size) _ _), s .pre .2, s .pre .4, n .wholes, n .parts, n .rows, n .first, s .pre .6)
+begin-row-requires c κs =
+    let s =
+    c .before .before .before .before .before .before .before .before .before .before .before .before .before .before .before .before .before .before .before in
+    let n = s .pre .5 in
+    (s .pre .1, subst (λ (u : ℕ). u ≤ s .args .o .size) (sym (c .before .before .before .below-level2 .ensures)) (below-most (s .args .o .size) _ _), s .pre .2, s .pre .4, n .wholes, n .parts, n .rows, n .first, s .pre .6)
 
 lay-levels-requires : tie.Need-lay-levels-requires
 lay-levels-requires c κs =
-    let s = c .before .before .before .before .before .before .before .before .before .before .before .before .before .before .before .before .before .before .before .before .before .before .before .before .before .before .before .before .before .before .before .before .before in
+    let s =
+    c .before .before .before .before .before .before .before .before .before .before .before .before .before .before .before .before .before .before .before .before .before .before .before .before .before .before .before .before .before .before .before .before .before in
     let o = s .args .o in
     let n = s .pre .5 in
     let oy = back (o .oy) (s .pre .1 .y) in
     let b = c .before .before .before .before .before .before .before .before .before .before .before .before .before .begin-row .ensures in
-    let lo = c .before .before .before .before .before .before .before .before .before .before .before .before .before .before .before .before .before .before .before .below-level .result in
-    let hi = c .before .before .before .before .before .before .before .before .before .before .before .before .before .before .before .before .before .below-level2 .result in
-    let top = c .before .before .before .before .before .before .before .before .before .before .before .before .before .before .before .before .before .before .before .before .before .row-top .result in
-    let high : hi ≡ belowLevel (o .size) (o .oy) (top - 1) = c .before .before .before .before .before .before .before .before .before .before .before .before .before .before .before .before .before .below-level2 .ensures ∙ ap (λ (u : ℤ). belowLevel (o .size) u (top - 1)) oy in
+    let lo =
+    c .before .before .before .before .before .before .before .before .before .before .before .before .before .before .before .before .before .before .before .below-level .result in
+    let hi =
+    c .before .before .before .before .before .before .before .before .before .before .before .before .before .before .before .before .before .below-level2 .result in
+    let top =
+    c .before .before .before .before .before .before .before .before .before .before .before .before .before .before .before .before .before .before .before .before .before .row-top .result in
+    let high : hi ≡ belowLevel (o .size) (o .oy) (top - 1) =
+    c .before .before .before .before .before .before .before .before .before .before .before .before .before .before .before .before .before .below-level2 .ensures
+    ∙ ap (λ (u : ℤ). belowLevel (o .size) u (top - 1)) oy in
     let most : hi ≤ o .size = subst (λ (u : ℕ). u ≤ o .size) (sym high) (below-most (o .size) (o .oy) (top - 1)) in
     let a = n .first in
     let g = c .before .before .before .before .before .before .before .before .before .before .a .given in (

@@ -26,19 +26,34 @@ loop-holds : tie.Need-loop-holds Inv-loop μ-loop
 loop-holds c = let s = c .before in (omega arith, start (xAt (s .args .w) (s .args .o)) _)
 
 along-requires : tie.Need-along-requires Inv-loop μ-loop
-along-requires c κs = let s = c .before .before .before .before in let p : Near (s .args .o) = s .pre .0 in let m = p .most in let t : c .before .before .loop .i < s .args .o .size = c .before .loop-test .taken in (subst (λ (u : ℤ). mag u ≤ 1000000) (sym (back (s .args .o .ox) (p .x))) (p .x), omega arith)
+along-requires c κs =
+    let s = c .before .before .before .before in
+    let p : Near (s .args .o) = s .pre .0 in
+    let m = p .most in
+    let t : c .before .before .loop .i < s .args .o .size = c .before .loop-test .taken in
+    (subst (λ (u : ℤ). mag u ≤ 1000000) (sym (back (s .args .o .ox) (p .x))) (p .x), omega arith)
 
 of-i32-requires : tie.Need-of-i32-requires Inv-loop μ-loop
 of-i32-requires c κs = search needs
 
 mul-xs : tie.Need-mul-xs Inv-loop μ-loop
-mul-xs c = let p = c .before .before .before .before .before .before .before .pre .0 .most in let t = c .before .before .before .before .loop-test .taken in omega arith
+mul-xs c =
+    let p = c .before .before .before .before .before .before .before .pre .0 .most in
+    let t = c .before .before .before .before .loop-test .taken in
+    omega arith
 
 slice-write-xs : tie.Need-slice-write-xs Inv-loop μ-loop
-slice-write-xs c = let p = c .before .before .before .before .before .before .before .pre .1 in let t = c .before .before .before .before .loop-test .taken in let e = c .before .before .before .before .before .loop .inv .1 .same in omega arith
+slice-write-xs c =
+    let p = c .before .before .before .before .before .before .before .pre .1 in
+    let t = c .before .before .before .before .loop-test .taken in
+    let e = c .before .before .before .before .before .loop .inv .1 .same in
+    omega arith
 
 add-i : tie.Need-add-i Inv-loop μ-loop
-add-i c = let p = c .before .before .before .before .before .before .before .pre .0 .most in let t = c .before .before .before .before .loop-test .taken in omega arith
+add-i c =
+    let p = c .before .before .before .before .before .before .before .pre .0 .most in
+    let t = c .before .before .before .before .loop-test .taken in
+    omega arith
 
 loop-less : tie.Need-loop-less Inv-loop μ-loop
 loop-less c = let t = c .before .before .before .before .loop-test .taken in omega arith
@@ -59,7 +74,10 @@ same-length : tie.Need-same-length Inv-loop μ-loop
 same-length c = c .before .loop .inv .1 .same
 
 returns : tie.Need-returns Inv-loop μ-loop
-returns c = let s = c .before .before .before in let l = c .before .loop in end (xAt (s .args .w) (s .args .o)) (s .args .xs .now) (l .xs) (l .i) (s .args .o .size) (l .inv .1) (c .loop-test .left) (s .pre .1)
+returns c =
+    let s = c .before .before .before in
+    let l = c .before .loop in
+    end (xAt (s .args .w) (s .args .o)) (s .args .xs .now) (l .xs) (l .i) (s .args .o .size) (l .inv .1) (c .loop-test .left) (s .pre .1)
 
 pub note-xs-spec : {M : Type 1} → statement M
 note-xs-spec =

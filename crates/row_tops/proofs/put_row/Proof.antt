@@ -20,29 +20,58 @@ use Rattle.row_tops.proofs.put_row.Statement.{statement}
 use Rattle.row_tops.proofs.put_row.Tie as tie
 
 abbrev Inv-loop : tie.InvT-loop
-Inv-loop w o z temp moisture continent detail micro ridge1 ridge2 flat dune hill heights₀ biomes₀ m x₀ heights biomes x = (x ≤ o .size) × (heights ≡ steps x (noteAt (columnHeight w o) (z * o .size)) heights₀) × (biomes ≡ steps x (noteAt (columnBiome w o) (z * o .size)) biomes₀)
+Inv-loop w o z temp moisture continent detail micro ridge1 ridge2 flat dune hill heights₀ biomes₀ m x₀ heights biomes x =
+    (x ≤ o .size) × (heights ≡ steps x (noteAt (columnHeight w o) (z * o .size)) heights₀) × (biomes ≡ steps x (noteAt (columnBiome w o) (z * o .size)) biomes₀)
 
 abbrev μ-loop : tie.MeasureT-loop
 μ-loop w o z temp moisture continent detail micro ridge1 ridge2 flat dune hill heights₀ biomes₀ m x₀ heights biomes x = o .size - x
 
 mul-m : tie.Need-mul-m Inv-loop μ-loop
-mul-m c = let s = c .before .before .before .before .before .before .before .before .before .before .before .before .before in let o = s .args .o in let p : 0 < o .size = s .pre .1 .some in let d = digits-lt (s .pre .2) p in let sq = square-most (o .size) (s .pre .1 .most) in omega arith
+mul-m c =
+    let s = c .before .before .before .before .before .before .before .before .before .before .before .before .before in
+    let o = s .args .o in
+    let p : 0 < o .size = s .pre .1 .some in
+    let d = digits-lt (s .pre .2) p in
+    let sq = square-most (o .size) (s .pre .1 .most) in
+    omega arith
 
 loop-holds : tie.Need-loop-holds Inv-loop μ-loop
 loop-holds c = (omega arith, steps-none _ _, steps-none _ _)
 
 climate-in-requires : tie.Need-climate-in-requires Inv-loop μ-loop
-climate-in-requires c κs = let s = c .before .before .before .before .before .before .before .before .before .before .before .before .before .before .before .before in let t : c .before .before .loop .x < s .args .o .size = c .if1 .taken in let r = s .pre .3 in let m = s .pre .1 .most in let l0 = r .long0 in let l1 = r .long1 in (omega arith, omega arith, omega arith)
+climate-in-requires c κs =
+    let s = c .before .before .before .before .before .before .before .before .before .before .before .before .before .before .before .before in
+    let t : c .before .before .loop .x < s .args .o .size = c .if1 .taken in
+    let r = s .pre .3 in
+    let m = s .pre .1 .most in
+    let l0 = r .long0 in
+    let l1 = r .long1 in
+    (omega arith, omega arith, omega arith)
 
 relief-in-requires : tie.Need-relief-in-requires Inv-loop μ-loop
-relief-in-requires c κs = let s = c .before .before .before .before .before .before .before .before .before .before .before .before .before .before .before .before .before in let t : c .before .before .before .loop .x < s .args .o .size = c .before .if1 .taken in let r = s .pre .3 in let m = s .pre .1 .most in let l2 = r .long2 in let l3 = r .long3 in let l4 = r .long4 in let l5 = r .long5 in let l6 = r .long6 in let l7 = r .long7 in let l8 = r .long8 in let l9 = r .long9 in (omega arith, omega arith, omega arith, omega arith, omega arith, omega arith, omega arith, omega arith, omega arith)
+relief-in-requires c κs =
+    let s = c .before .before .before .before .before .before .before .before .before .before .before .before .before .before .before .before .before in
+    let t : c .before .before .before .loop .x < s .args .o .size = c .before .if1 .taken in
+    let r = s .pre .3 in
+    let m = s .pre .1 .most in
+    let l2 = r .long2 in
+    let l3 = r .long3 in
+    let l4 = r .long4 in
+    let l5 = r .long5 in
+    let l6 = r .long6 in
+    let l7 = r .long7 in
+    let l8 = r .long8 in
+    let l9 = r .long9 in
+    (omega arith, omega arith, omega arith, omega arith, omega arith, omega arith, omega arith, omega arith, omega arith)
 
 top-of-requires : tie.Need-top-of-requires Inv-loop μ-loop
-top-of-requires c κs = c .before .before .before .before .before .before .before .before .before .before .before .before .before .before .before .before .before .before .pre .0
+top-of-requires c κs =
+    c .before .before .before .before .before .before .before .before .before .before .before .before .before .before .before .before .before .before .pre .0
 
 add-k : tie.Need-add-k Inv-loop μ-loop
 add-k c =
-    let s = c .before .before .before .before .before .before .before .before .before .before .before .before .before .before .before .before .before .before .before in
+    let s =
+    c .before .before .before .before .before .before .before .before .before .before .before .before .before .before .before .before .before .before .before in
     let l = c .before .before .before .before .before .loop in
     let o = s .args .o in
     let z = s .args .z in
@@ -53,7 +82,8 @@ add-k c =
 
 mul-heights : tie.Need-mul-heights Inv-loop μ-loop
 mul-heights c =
-    let s = c .before .before .before .before .before .before .before .before .before .before .before .before .before .before .before .before .before .before .before in
+    let s =
+    c .before .before .before .before .before .before .before .before .before .before .before .before .before .before .before .before .before .before .before in
     let l = c .before .before .before .before .before .loop in
     let o = s .args .o in
     let z = s .args .z in
@@ -64,7 +94,8 @@ mul-heights c =
 
 slice-write-heights : tie.Need-slice-write-heights Inv-loop μ-loop
 slice-write-heights c =
-    let s = c .before .before .before .before .before .before .before .before .before .before .before .before .before .before .before .before .before .before .before in
+    let s =
+    c .before .before .before .before .before .before .before .before .before .before .before .before .before .before .before .before .before .before .before in
     let l = c .before .before .before .before .before .loop in
     let o = s .args .o in
     let z = s .args .z in
@@ -72,12 +103,14 @@ slice-write-heights c =
     let d = digits-lt (s .pre .2) t in
     let sq = square-most (o .size) (s .pre .1 .most) in
     let g : o .size * o .size ≤ length (s .args .heights .now) = s .pre .4 in
-    let e : length (l .heights) ≡ length (s .args .heights .now) = ap length (l .inv .1) ∙ row-length (columnHeight (s .args .w) o) (z * o .size) (l .x) (s .args .heights .now) in
+    let e : length (l .heights) ≡ length (s .args .heights .now) =
+    ap length (l .inv .1) ∙ row-length (columnHeight (s .args .w) o) (z * o .size) (l .x) (s .args .heights .now) in
     omega arith
 
 slice-write-biomes : tie.Need-slice-write-biomes Inv-loop μ-loop
 slice-write-biomes c =
-    let s = c .before .before .before .before .before .before .before .before .before .before .before .before .before .before .before .before .before .before .before in
+    let s =
+    c .before .before .before .before .before .before .before .before .before .before .before .before .before .before .before .before .before .before .before in
     let l = c .before .before .before .before .before .loop in
     let o = s .args .o in
     let z = s .args .z in
@@ -85,12 +118,14 @@ slice-write-biomes c =
     let d = digits-lt (s .pre .2) t in
     let sq = square-most (o .size) (s .pre .1 .most) in
     let g : o .size * o .size ≤ length (s .args .biomes .now) = s .pre .5 in
-    let e : length (l .biomes) ≡ length (s .args .biomes .now) = ap length (l .inv .2) ∙ row-length (columnBiome (s .args .w) o) (z * o .size) (l .x) (s .args .biomes .now) in
+    let e : length (l .biomes) ≡ length (s .args .biomes .now) =
+    ap length (l .inv .2) ∙ row-length (columnBiome (s .args .w) o) (z * o .size) (l .x) (s .args .biomes .now) in
     omega arith
 
 add-x : tie.Need-add-x Inv-loop μ-loop
 add-x c =
-    let s = c .before .before .before .before .before .before .before .before .before .before .before .before .before .before .before .before .before .before .before in
+    let s =
+    c .before .before .before .before .before .before .before .before .before .before .before .before .before .before .before .before .before .before .before in
     let l = c .before .before .before .before .before .loop in
     let o = s .args .o in
     let z = s .args .z in
@@ -101,7 +136,8 @@ add-x c =
 
 loop-less : tie.Need-loop-less Inv-loop μ-loop
 loop-less c =
-    let s = c .before .before .before .before .before .before .before .before .before .before .before .before .before .before .before .before .before .before .before in
+    let s =
+    c .before .before .before .before .before .before .before .before .before .before .before .before .before .before .before .before .before .before .before in
     let l = c .before .before .before .before .before .loop in
     let o = s .args .o in
     let z = s .args .z in
@@ -113,7 +149,8 @@ loop-less c =
 loop-again : tie.Need-loop-again Inv-loop μ-loop
 unfolding noteAt
 loop-again c =
-    let s = c .before .before .before .before .before .before .before .before .before .before .before .before .before .before .before .before .before .before .before in
+    let s =
+    c .before .before .before .before .before .before .before .before .before .before .before .before .before .before .before .before .before .before .before in
     let l = c .before .before .before .before .before .loop in
     let o = s .args .o in
     let z = s .args .z in

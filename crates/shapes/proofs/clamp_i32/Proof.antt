@@ -19,11 +19,17 @@ returns c = let s = c .before in toZ-ofZ w32 (s .args .lo) (s .fits .lo) ∙ sym
 
 returns-2 : tie.Need-returns-2
 unfolding clampOf
-returns-2 c = let s = c .before .before in toZ-ofZ w32 (s .args .hi) (s .fits .hi) ∙ sym (simp (order (s .fits .n) (s .fits .lo) (c .before .if1 .left), order (s .fits .hi) (s .fits .n) (c .if2 .taken)))
+returns-2 c =
+    let s = c .before .before in
+    toZ-ofZ w32 (s .args .hi) (s .fits .hi)
+    ∙ sym (simp (order (s .fits .n) (s .fits .lo) (c .before .if1 .left), order (s .fits .hi) (s .fits .n) (c .if2 .taken)))
 
 returns-3 : tie.Need-returns-3
 unfolding clampOf
-returns-3 c = let s = c .before .before in toZ-ofZ w32 (s .args .n) (s .fits .n) ∙ sym (simp (order (s .fits .n) (s .fits .lo) (c .before .if1 .left), order (s .fits .hi) (s .fits .n) (c .if2 .left)))
+returns-3 c =
+    let s = c .before .before in
+    toZ-ofZ w32 (s .args .n) (s .fits .n)
+    ∙ sym (simp (order (s .fits .n) (s .fits .lo) (c .before .if1 .left), order (s .fits .hi) (s .fits .n) (c .if2 .left)))
 
 pub clamp-i32-spec : {M : Type 1} → statement M
 clamp-i32-spec = tie.close (tie.spec returns returns-2 returns-3)

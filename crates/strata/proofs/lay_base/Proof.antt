@@ -59,12 +59,19 @@ slice-aggregate-lay-rows-8 c = search needs
 
 lay-rows-requires : tie.Need-lay-rows-requires
 lay-rows-requires c κs =
-    let s = c .before .before .before .before .before .before .before .before .before .before .before .before .before .before .before .before .before .before .before .before .before .before .before .before in
+    let c12 = c .before .before .before .before .before .before .before .before .before .before .before .before in
+    let c16 = c12 .before .before .before .before in
+    let c17 = c16 .before in
+    let c18 = c17 .before in
+    let c19 = c18 .before in
+    let c20 = c19 .before in
+    let c24 = c20 .before .before .before .before in
+    let s = c24 in
     let o = s .args .o in
-    let n = c .before .before .before .before .before .before .before .before .before .before .before .before .note-coords in
+    let n = c12 .note-coords in
     let m : o .size ≤ 64 = s .pre .1 .most in
-    let a : 64 ≡ length (n .last .1 .0) = sym (n .kept .1 .0 ∙ c .before .before .before .before .before .before .before .before .before .before .before .before .before .before .before .before .before .before .before .before .no-sums .ensures) in
-    (s .pre .0, s .pre .1, s .pre .2, n .ensures, record { wholes = n .kept .1 .1 .0; parts = n .kept .1 .1 .1 .0; rows = refl; first = subst (λ (u : ℕ). o .size ≤ u) a m; second = subst (λ (u : ℕ). o .size ≤ u) (sym (c .before .before .before .before .before .before .before .before .before .before .before .before .before .before .before .before .before .before .before .no-sums2 .ensures)) m; third = subst (λ (u : ℕ). o .size ≤ u) (sym (c .before .before .before .before .before .before .before .before .before .before .before .before .before .before .before .before .before .before .no-sums3 .ensures)) m; marks = subst (λ (u : ℕ). o .size ≤ u) (sym (c .before .before .before .before .before .before .before .before .before .before .before .before .before .before .before .before .no-flags2 .ensures)) m }, subst (λ (u : ℕ). o .size ≤ u) (sym (c .before .before .before .before .before .before .before .before .before .before .before .before .before .before .before .before .before .no-flags .ensures)) m, s .pre .3)
+    let a : 64 ≡ length (n .last .1 .0) = sym (n .kept .1 .0 ∙ c20 .no-sums .ensures) in
+    (s .pre .0, s .pre .1, s .pre .2, n .ensures, record { wholes = n .kept .1 .1 .0; parts = n .kept .1 .1 .1 .0; rows = refl; first = subst (λ (u : ℕ). o .size ≤ u) a m; second = subst (λ (u : ℕ). o .size ≤ u) (sym (c19 .no-sums2 .ensures)) m; third = subst (λ (u : ℕ). o .size ≤ u) (sym (c18 .no-sums3 .ensures)) m; marks = subst (λ (u : ℕ). o .size ≤ u) (sym (c16 .no-flags2 .ensures)) m }, subst (λ (u : ℕ). o .size ≤ u) (sym (c17 .no-flags .ensures)) m, s .pre .3)
 
 same-length : tie.Need-same-length
 same-length c = search needs

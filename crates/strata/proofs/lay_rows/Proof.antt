@@ -33,36 +33,48 @@ loop-holds c =
 
 lay-row-requires : tie.Need-lay-row-requires Inv-loop μ-loop
 lay-row-requires c κs =
-    let s = c .before .before .before .before .before .before .before .before .before .before .before .before .before .before .before .before .before .before .before .before in
-    let l = c .before .before .before .before .before .before .before .before .loop in
+    let c7 = c .before .before .before .before .before .before .before in
+    let c8 = c7 .before in
+    let c20 = c8 .before .before .before .before .before .before .before .before .before .before .before .before in
+    let s = c20 in
+    let l = c8 .loop in
     let o = s .args .o in
-    let t : l .z < o .size = c .before .before .before .before .before .before .before .loop-test .taken in
+    let t : l .z < o .size = c7 .loop-test .taken in
     let n = s .pre .4 in
     (s .pre .0, s .pre .1, t, s .pre .2, s .pre .3, record { wholes = n .wholes; parts = n .parts; rows = l .inv .2 ∙ n .rows; first = subst (λ (u : ℕ). o .size ≤ u) (sym (l .inv .3)) (n .first); second = subst (λ (u : ℕ). o .size ≤ u) (sym (l .inv .4)) (n .second); third = subst (λ (u : ℕ). o .size ≤ u) (sym (l .inv .5)) (n .third); marks = subst (λ (u : ℕ). o .size ≤ u) (sym (l .inv .7)) (n .marks) }, subst (λ (u : ℕ). o .size ≤ u) (sym (l .inv .6)) (s .pre .5), l .inv .1)
 
 add-z : tie.Need-add-z Inv-loop μ-loop
 add-z c =
-    let s = c .before .before .before .before .before .before .before .before .before .before .before .before .before .before .before .before .before .before .before .before .before .before .before .before .before .before .before .before .before .before .before .before .before .before .before in
-    let l = c .before .before .before .before .before .before .before .before .before .before .before .before .before .before .before .before .before .before .before .before .before .before .before .loop in
+    let s =
+    c .before .before .before .before .before .before .before .before .before .before .before .before .before .before .before .before .before .before .before .before .before .before .before .before .before .before .before .before .before .before .before .before .before .before .before in
+    let l =
+    c .before .before .before .before .before .before .before .before .before .before .before .before .before .before .before .before .before .before .before .before .before .before .before .loop in
     let o = s .args .o in
-    let t : l .z < o .size = c .before .before .before .before .before .before .before .before .before .before .before .before .before .before .before .before .before .before .before .before .before .before .loop-test .taken in
+    let t : l .z < o .size =
+    c .before .before .before .before .before .before .before .before .before .before .before .before .before .before .before .before .before .before .before .before .before .before .loop-test .taken in
     let m : o .size ≤ 64 = s .pre .1 .most in
     omega arith
 
 loop-less : tie.Need-loop-less Inv-loop μ-loop
 loop-less c =
-    let s = c .before .before .before .before .before .before .before .before .before .before .before .before .before .before .before .before .before .before .before .before .before .before .before .before .before .before .before .before .before .before .before .before .before .before .before in
-    let l = c .before .before .before .before .before .before .before .before .before .before .before .before .before .before .before .before .before .before .before .before .before .before .before .loop in
+    let s =
+    c .before .before .before .before .before .before .before .before .before .before .before .before .before .before .before .before .before .before .before .before .before .before .before .before .before .before .before .before .before .before .before .before .before .before .before in
+    let l =
+    c .before .before .before .before .before .before .before .before .before .before .before .before .before .before .before .before .before .before .before .before .before .before .before .loop in
     let o = s .args .o in
-    let t : l .z < o .size = c .before .before .before .before .before .before .before .before .before .before .before .before .before .before .before .before .before .before .before .before .before .before .loop-test .taken in
+    let t : l .z < o .size =
+    c .before .before .before .before .before .before .before .before .before .before .before .before .before .before .before .before .before .before .before .before .before .before .loop-test .taken in
     omega arith
 
 loop-again : tie.Need-loop-again Inv-loop μ-loop
 loop-again c =
-    let s = c .before .before .before .before .before .before .before .before .before .before .before .before .before .before .before .before .before .before .before .before .before .before .before .before .before .before .before .before .before .before .before .before .before .before .before in
-    let l = c .before .before .before .before .before .before .before .before .before .before .before .before .before .before .before .before .before .before .before .before .before .before .before .loop in
+    let s =
+    c .before .before .before .before .before .before .before .before .before .before .before .before .before .before .before .before .before .before .before .before .before .before .before .before .before .before .before .before .before .before .before .before .before .before .before in
+    let l =
+    c .before .before .before .before .before .before .before .before .before .before .before .before .before .before .before .before .before .before .before .before .before .before .before .loop in
     let o = s .args .o in
-    let t : l .z < o .size = c .before .before .before .before .before .before .before .before .before .before .before .before .before .before .before .before .before .before .before .before .before .before .loop-test .taken in
+    let t : l .z < o .size =
+    c .before .before .before .before .before .before .before .before .before .before .before .before .before .before .before .before .before .before .before .before .before .before .loop-test .taken in
     let r = c .before .before .before .before .before .before .before .before .before .before .before .before .before .before .lay-row in
     let k = r .kept in
     let cells = r .last .1 .1 .1 .1 .1 .1 .1 .1 .1 .1 .1 .1 .1 .0 in
@@ -87,7 +99,8 @@ same-length-6 : tie.Need-same-length-6 Inv-loop μ-loop
 same-length-6 c = c .before .loop .inv .7
 
 same-length-7 : tie.Need-same-length-7 Inv-loop μ-loop
-same-length-7 c = c .before .loop .inv .1 .all ∙ sym (c .before .before .before .before .before .before .before .before .before .before .before .before .before .pre .6 .all)
+same-length-7 c =
+    c .before .loop .inv .1 .all ∙ sym (c .before .before .before .before .before .before .before .before .before .before .before .before .before .pre .6 .all)
 
 returns : tie.Need-returns Inv-loop μ-loop
 returns c =

@@ -27,10 +27,20 @@ mul-window-len : tie.Need-mul-window-len Inv-loop μ-loop
 mul-window-len c = let i = c .before .before .before .before .before .before .loop .inv .0 in omega arith
 
 window-len-requires : tie.Need-window-len-requires Inv-loop μ-loop
-window-len-requires c κs = let t = c .before .before .before .before .before .loop-test .taken in (ap length (c .before .before .before .count-window .ensures) ∙ table-length _ _, omega arith)
+window-len-requires c κs =
+    let t = c .before .before .before .before .before .loop-test .taken in
+    (ap length (c .before .before .before .count-window .ensures) ∙ table-length _ _, omega arith)
 
 add-n : tie.Need-add-n Inv-loop μ-loop
-add-n c = let l = c .before .before .before .before .before .before .before .loop in let e = c .window-len .ensures in let m = window-most (l .w * 8192) (c .before .before .before .before .count-window .last .1 .1 .0) in let s = span-most 0 (l .w * 8192) (idCount (c .before .before .before .before .before .before .before .before .before .before .args .cells .now)) (λ (v : ℕ). v) in let i = l .inv .1 in let j = l .inv .0 in omega arith
+add-n c =
+    let l = c .before .before .before .before .before .before .before .loop in
+    let e = c .window-len .ensures in
+    let m = window-most (l .w * 8192) (c .before .before .before .before .count-window .last .1 .1 .0) in
+    let s =
+    span-most 0 (l .w * 8192) (idCount (c .before .before .before .before .before .before .before .before .before .before .args .cells .now)) (λ (v : ℕ). v) in
+    let i = l .inv .1 in
+    let j = l .inv .0 in
+    omega arith
 
 add-w : tie.Need-add-w Inv-loop μ-loop
 add-w c = let i = c .before .before .before .before .before .before .before .loop .inv .0 in omega arith
@@ -39,14 +49,26 @@ loop-less : tie.Need-loop-less Inv-loop μ-loop
 loop-less c = let t = c .before .before .before .before .before .before .loop-test .taken in omega arith
 
 loop-again : tie.Need-loop-again Inv-loop μ-loop
-loop-again c = let l = c .before .before .before .before .before .before .before .loop in let t = c .before .before .before .before .before .before .loop-test .taken in let e = c .window-len .ensures in let i = l .inv .1 in let s = window-length (l .w) (c .before .before .before .before .before .before .before .before .before .before .args .cells .now) _ (c .before .before .before .before .count-window .ensures) in (omega arith, omega arith, ap length (c .before .before .before .before .count-window .ensures) ∙ table-length _ _)
+loop-again c =
+    let l = c .before .before .before .before .before .before .before .loop in
+    let t = c .before .before .before .before .before .before .loop-test .taken in
+    let e = c .window-len .ensures in
+    let i = l .inv .1 in
+    let s =
+    window-length (l .w) (c .before .before .before .before .before .before .before .before .before .before .args .cells .now) _ (c .before .before .before .before .count-window .ensures) in
+    (omega arith, omega arith, ap length (c .before .before .before .before .count-window .ensures) ∙ table-length _ _)
 
 same-length : tie.Need-same-length Inv-loop μ-loop
 same-length c = c .before .loop .inv .2 ∙ sym (c .before .before .before .before .pre .0)
 
 returns : tie.Need-returns Inv-loop μ-loop
 unfolding presentIds
-returns c = let l = c .before .loop in let i = l .inv .0 in let t = c .loop-test .left in let q : l .w * 8192 ≡ 65536 = omega arith in (l .inv .1 ∙ ap (λ (k : ℕ). length (span 0 k (idCount (c .before .before .before .before .args .cells .now)) (λ (v : ℕ). v))) q, l .inv .2)
+returns c =
+    let l = c .before .loop in
+    let i = l .inv .0 in
+    let t = c .loop-test .left in
+    let q : l .w * 8192 ≡ 65536 = omega arith in
+    (l .inv .1 ∙ ap (λ (k : ℕ). length (span 0 k (idCount (c .before .before .before .before .args .cells .now)) (λ (v : ℕ). v))) q, l .inv .2)
 
 pub count-ids-spec : {M : Type 1} → statement M
 count-ids-spec =

@@ -27,10 +27,14 @@ shared-slice-read-bump : tie.Need-shared-slice-read-bump Inv-loop μ-loop
 shared-slice-read-bump c = c .before .before .loop-test .taken
 
 bump-requires : tie.Need-bump-requires Inv-loop μ-loop
-bump-requires c κs = let l = c .before .before .before .loop in subst Room (sym (l .inv .1)) (table-room (c .before .before .before .before .before .before .before .before .before .before .args .base) (take (l .i) (c .before .before .before .before .before .before .before .before .before .before .args .cells .now)) (let h = c .before .before .before .before .before .before .before .before .before .before .pre .1 in let m = length-take-le (l .i) (c .before .before .before .before .before .before .before .before .before .before .args .cells .now) (l .inv .0) in let t = l .inv .0 in omega arith))
+bump-requires c κs =
+    let l = c .before .before .before .loop in
+    subst Room (sym (l .inv .1)) (table-room (c .before .before .before .before .before .before .before .before .before .before .args .base) (take (l .i) (c .before .before .before .before .before .before .before .before .before .before .args .cells .now)) (let h = c .before .before .before .before .before .before .before .before .before .before .pre .1 in let m = length-take-le (l .i) (c .before .before .before .before .before .before .before .before .before .before .args .cells .now) (l .inv .0) in let t = l .inv .0 in omega arith))
 
 add-i : tie.Need-add-i Inv-loop μ-loop
-add-i c = let t = c .before .before .before .before .before .loop-test .taken in omega (arith, c .before .before .before .before .before .before .before .before .before .before .before .before .before .good)
+add-i c =
+    let t = c .before .before .before .before .before .loop-test .taken in
+    omega (arith, c .before .before .before .before .before .before .before .before .before .before .before .before .before .good)
 
 loop-less : tie.Need-loop-less Inv-loop μ-loop
 loop-less c = let t = c .before .before .before .before .before .loop-test .taken in omega arith
@@ -43,7 +47,10 @@ same-length : tie.Need-same-length Inv-loop μ-loop
 same-length c = ap length (c .before .loop .inv .1) ∙ table-length _ _ ∙ sym (c .before .before .before .before .before .before .before .before .pre .0)
 
 returns : tie.Need-returns Inv-loop μ-loop
-returns c = let l = c .before .loop in l .inv .1 ∙ ap (idTable (c .before .before .before .before .before .before .before .before .args .base)) (take-all (l .i) (c .before .before .before .before .before .before .before .before .args .cells .now) (c .loop-test .left))
+returns c =
+    let l = c .before .loop in
+    l .inv .1
+    ∙ ap (idTable (c .before .before .before .before .before .before .before .before .args .base)) (take-all (l .i) (c .before .before .before .before .before .before .before .before .args .cells .now) (c .loop-test .left))
 
 pub count-window-spec : {M : Type 1} → statement M
 count-window-spec =

@@ -10,13 +10,17 @@ use Rattle.tally.proofs.list_ids.Statement.{statement}
 use Rattle.tally.proofs.list_ids.Tie as tie
 
 abbrev Inv-loop : tie.InvT-loop
-Inv-loop cells ids₀ counts₀ table₀ at₀ w₀ ids counts table at w = (w ≤ 8) × (at ≡ length (span 0 (w * 8192) (idCount cells) (λ (v : ℕ). v))) × (ids ≡ span 0 (w * 8192) (idCount cells) (λ (v : ℕ). v) ++ drop at ids₀) × (counts ≡ span 0 (w * 8192) (idCount cells) (idCount cells) ++ drop at counts₀) × (length table ≡ 8192)
+Inv-loop cells ids₀ counts₀ table₀ at₀ w₀ ids counts table at w =
+    (w ≤ 8) × (at ≡ length (span 0 (w * 8192) (idCount cells) (λ (v : ℕ). v))) × (ids ≡ span 0 (w * 8192) (idCount cells) (λ (v : ℕ). v) ++ drop at ids₀) × (counts ≡ span 0 (w * 8192) (idCount cells) (idCount cells) ++ drop at counts₀) × (length table ≡ 8192)
 
 abbrev μ-loop : tie.MeasureT-loop
 μ-loop cells ids₀ counts₀ table₀ at₀ w₀ ids counts table at w = 8 - w
 
 loop-holds : tie.Need-loop-holds Inv-loop μ-loop
-loop-holds c = let a = c .before .before .before .before .args in let f = idCount (a .cells .now) in (omega arith, ap length (sym (span-none 0 f (λ (v : ℕ). v))), ap (λ (r : List ℕ). r ++ a .ids .now) (sym (span-none 0 f (λ (v : ℕ). v))), ap (λ (r : List ℕ). r ++ a .counts .now) (sym (span-none 0 f f)), c .before .before .before .before .pre .0)
+loop-holds c =
+    let a = c .before .before .before .before .args in
+    let f = idCount (a .cells .now) in
+    (omega arith, ap length (sym (span-none 0 f (λ (v : ℕ). v))), ap (λ (r : List ℕ). r ++ a .ids .now) (sym (span-none 0 f (λ (v : ℕ). v))), ap (λ (r : List ℕ). r ++ a .counts .now) (sym (span-none 0 f f)), c .before .before .before .before .pre .0)
 
 mul-count-window : tie.Need-mul-count-window Inv-loop μ-loop
 mul-count-window c = let i = c .before .loop .inv .0 in omega arith
@@ -30,9 +34,15 @@ mul-write-window c = let i = c .before .before .before .before .before .before .
 write-window-requires : tie.Need-write-window-requires Inv-loop μ-loop
 write-window-requires c κs = let s = c .before .before .before .before .before .before .before .before .before .before .before .before .before in let a = s .args in let f = idCount (a .cells .now) in let l = c .before .before .before .before .before .before .before .before .loop in let t = c .before .before .before .before .before .before .before .loop-test .taken in
     let tb = c .before .before .before .before .before .count-window .last .1 .1 .0 in
-    let e = window-length (l .w) (a .cells .now) tb (c .before .before .before .before .before .count-window .ensures) in let m = prefix-most (l .w + 1) (a .cells .now) (omega arith) in let i = l .inv .1 in let x = s .pre .2 in let y = s .pre .3 in let z = span-length 0 (l .w * 8192) f (λ (v : ℕ). v) f in
+    let e = window-length (l .w) (a .cells .now) tb (c .before .before .before .before .before .count-window .ensures) in
+    let m = prefix-most (l .w + 1) (a .cells .now) (omega arith) in
+    let i = l .inv .1 in
+    let x = s .pre .2 in
+    let y = s .pre .3 in
+    let z = span-length 0 (l .w * 8192) f (λ (v : ℕ). v) f in
     let ni : l .at ≤ length (a .ids .now) = omega arith in let nc : l .at ≤ length (a .counts .now) = omega arith in
-    let li = front-length (span 0 (l .w * 8192) f (λ (v : ℕ). v)) (a .ids .now) (l .ids) (l .at) i ni (l .inv .2) in let lc = front-length (span 0 (l .w * 8192) f f) (a .counts .now) (l .counts) (l .at) (i ∙ z) nc (l .inv .3) in
+    let li = front-length (span 0 (l .w * 8192) f (λ (v : ℕ). v)) (a .ids .now) (l .ids) (l .at) i ni (l .inv .2) in
+    let lc = front-length (span 0 (l .w * 8192) f f) (a .counts .now) (l .counts) (l .at) (i ∙ z) nc (l .inv .3) in
     (ap length (c .before .before .before .before .before .count-window .ensures) ∙ table-length _ _, omega arith, omega arith, omega arith)
 
 add-w : tie.Need-add-w Inv-loop μ-loop
@@ -43,8 +53,17 @@ loop-less c = let t = c .before .before .before .before .before .before .before 
 
 loop-again : tie.Need-loop-again Inv-loop μ-loop
 loop-again c = let s = c .before .before .before .before .before .before .before .before .before .before .before .before .before .before .before .before .before .before in let a = s .args in let f = idCount (a .cells .now) in let l = c .before .before .before .before .before .before .before .before .before .before .before .before .before .loop in let t = c .before .before .before .before .before .before .before .before .before .before .before .before .loop-test .taken in let v = c .before .before .before .before .write-window .ensures in let u = c .before .before .before .before .before .before .before .before .before .before .count-window .ensures in
-    let tb = c .before .before .before .before .before .before .before .before .before .before .count-window .last .1 .1 .0 in let wi : List ℕ = windowIds (l .w * 8192) tb in let wc : List ℕ = windowCounts (l .w * 8192) tb in
-    let e = window-length (l .w) (a .cells .now) tb u in let m = prefix-most (l .w + 1) (a .cells .now) (omega arith) in let i = l .inv .1 in let x = s .pre .2 in let y = s .pre .3 in let z = span-length 0 (l .w * 8192) f (λ (v : ℕ). v) f in let r = v .0 in let g = window-same (l .w * 8192) tb in
+    let tb = c .before .before .before .before .before .before .before .before .before .before .count-window .last .1 .1 .0 in
+    let wi : List ℕ = windowIds (l .w * 8192) tb in
+    let wc : List ℕ = windowCounts (l .w * 8192) tb in
+    let e = window-length (l .w) (a .cells .now) tb u in
+    let m = prefix-most (l .w + 1) (a .cells .now) (omega arith) in
+    let i = l .inv .1 in
+    let x = s .pre .2 in
+    let y = s .pre .3 in
+    let z = span-length 0 (l .w * 8192) f (λ (v : ℕ). v) f in
+    let r = v .0 in
+    let g = window-same (l .w * 8192) tb in
     let ri : l .at + length wi ≤ length (a .ids .now) = omega arith in let rc : l .at + length wc ≤ length (a .counts .now) = omega arith in
     let rn : c .before .before .before .before .write-window .result ≡ length (span 0 ((l .w + 1) * 8192) f (λ (v : ℕ). v)) = omega arith in (
       omega arith,
@@ -55,10 +74,26 @@ loop-again c = let s = c .before .before .before .before .before .before .before
     )
 
 same-length : tie.Need-same-length Inv-loop μ-loop
-same-length c = let a = c .before .before .before .before .before .before .args in let f = idCount (a .cells .now) in let l = c .before .loop in let i = l .inv .1 in let x = c .before .before .before .before .before .before .pre .2 in let m = prefix-most (l .w) (a .cells .now) (l .inv .0) in let ni : l .at ≤ length (a .ids .now) = omega arith in front-length (span 0 (l .w * 8192) f (λ (v : ℕ). v)) (a .ids .now) (l .ids) (l .at) i ni (l .inv .2)
+same-length c =
+    let a = c .before .before .before .before .before .before .args in
+    let f = idCount (a .cells .now) in
+    let l = c .before .loop in
+    let i = l .inv .1 in
+    let x = c .before .before .before .before .before .before .pre .2 in
+    let m = prefix-most (l .w) (a .cells .now) (l .inv .0) in
+    let ni : l .at ≤ length (a .ids .now) = omega arith in
+    front-length (span 0 (l .w * 8192) f (λ (v : ℕ). v)) (a .ids .now) (l .ids) (l .at) i ni (l .inv .2)
 
 same-length-2 : tie.Need-same-length-2 Inv-loop μ-loop
-same-length-2 c = let a = c .before .before .before .before .before .before .args in let f = idCount (a .cells .now) in let l = c .before .loop in let i = l .inv .1 in let x = c .before .before .before .before .before .before .pre .3 in let m = prefix-most (l .w) (a .cells .now) (l .inv .0) in let nc : l .at ≤ length (a .counts .now) = omega arith in front-length (span 0 (l .w * 8192) f f) (a .counts .now) (l .counts) (l .at) (i ∙ span-length 0 (l .w * 8192) f (λ (v : ℕ). v) f) nc (l .inv .3)
+same-length-2 c =
+    let a = c .before .before .before .before .before .before .args in
+    let f = idCount (a .cells .now) in
+    let l = c .before .loop in
+    let i = l .inv .1 in
+    let x = c .before .before .before .before .before .before .pre .3 in
+    let m = prefix-most (l .w) (a .cells .now) (l .inv .0) in
+    let nc : l .at ≤ length (a .counts .now) = omega arith in
+    front-length (span 0 (l .w * 8192) f f) (a .counts .now) (l .counts) (l .at) (i ∙ span-length 0 (l .w * 8192) f (λ (v : ℕ). v) f) nc (l .inv .3)
 
 same-length-3 : tie.Need-same-length-3 Inv-loop μ-loop
 same-length-3 c = c .before .loop .inv .4 ∙ sym (c .before .before .before .before .before .before .pre .0)

@@ -14,10 +14,15 @@ refuse-chunk-requires : tie.Need-refuse-chunk-requires
 refuse-chunk-requires c κs = search needs
 
 returns : tie.Need-returns
-returns c = let a = c .before .before .before .before .before .before .args in let e = c .before .refuse-chunk .ensures in tally-refused (a .size) (a .cells .now) (a .ids .now) (a .counts .now) _ (e ∙ refuse-input (a .size) (a .cells .now) _ _ (λ q. c .if1 .taken (e ∙ q))) (c .if1 .taken)
+returns c =
+    let a = c .before .before .before .before .before .before .args in
+    let e = c .before .refuse-chunk .ensures in
+    tally-refused (a .size) (a .cells .now) (a .ids .now) (a .counts .now) _ (e ∙ refuse-input (a .size) (a .cells .now) _ _ (λ q. c .if1 .taken (e ∙ q))) (c .if1 .taken)
 
 count-ids-requires : tie.Need-count-ids-requires
-count-ids-requires c κs = let h = chunk-passed _ _ (sym (c .before .before .refuse-chunk .ensures) ∙ c .before .if1 .left) in (c .before .before .before .before .before .before .before .pre, chunk-most _ _ h)
+count-ids-requires c κs =
+    let h = chunk-passed _ _ (sym (c .before .before .refuse-chunk .ensures) ∙ c .before .if1 .left) in
+    (c .before .before .before .before .before .before .before .pre, chunk-most _ _ h)
 
 same-length : tie.Need-same-length
 same-length c = search needs
@@ -34,7 +39,14 @@ returns-3 c = let a = c .before .before .before .before .before .before .before 
     tally-refused (a .size) (a .cells .now) (a .ids .now) (a .counts .now) 13 (refuse-counts (a .size) (a .cells .now) (length (a .ids .now)) (length (a .counts .now)) e l k) (λ q. omega arith)
 
 list-ids-requires : tie.Need-list-ids-requires
-list-ids-requires c κs = let a = c .before .before .before .before .before .before .before .before .before .before .before .before .before .before .before .args in let h = chunk-passed _ _ (sym (c .before .before .before .before .before .before .before .before .before .before .refuse-chunk .ensures) ∙ c .before .before .before .before .before .before .before .before .before .if1 .left) in let n = c .before .before .before .before .before .before .before .count-ids .ensures .0 in let t = c .before .before .before .before .if2 .left in let u = c .before .before .before .if3 .left in (c .before .before .before .before .before .before .before .count-ids .ensures .1, chunk-most _ _ h, omega arith, omega arith)
+list-ids-requires c κs =
+    let a = c .before .before .before .before .before .before .before .before .before .before .before .before .before .before .before .args in
+    let h =
+    chunk-passed _ _ (sym (c .before .before .before .before .before .before .before .before .before .before .refuse-chunk .ensures) ∙ c .before .before .before .before .before .before .before .before .before .if1 .left) in
+    let n = c .before .before .before .before .before .before .before .count-ids .ensures .0 in
+    let t = c .before .before .before .before .if2 .left in
+    let u = c .before .before .before .if3 .left in
+    (c .before .before .before .before .before .before .before .count-ids .ensures .1, chunk-most _ _ h, omega arith, omega arith)
 
 same-length-3 : tie.Need-same-length-3
 same-length-3 c = search needs

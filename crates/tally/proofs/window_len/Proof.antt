@@ -30,7 +30,14 @@ one-if-listed-requires : tie.Need-one-if-listed-requires Inv-loop μ-loop
 one-if-listed-requires c κs = tt
 
 add-n : tie.Need-add-n Inv-loop μ-loop
-add-n c = let a = c .before .before .before .before .before .args in let l = c .before .before .before .loop in let t = span-most (a .base) (l .k) (λ (v : ℕ). getD (a .table .now) (v - a .base) 0) (λ (v : ℕ). v) in let e = c .one-if-listed .ensures in let m = list-most (a .base + l .k) (getD (a .table .now) (l .k) 0) (a .base + l .k) in let i = l .inv in omega arith
+add-n c =
+    let a = c .before .before .before .before .before .args in
+    let l = c .before .before .before .loop in
+    let t = span-most (a .base) (l .k) (λ (v : ℕ). getD (a .table .now) (v - a .base) 0) (λ (v : ℕ). v) in
+    let e = c .one-if-listed .ensures in
+    let m = list-most (a .base + l .k) (getD (a .table .now) (l .k) 0) (a .base + l .k) in
+    let i = l .inv in
+    omega arith
 
 add-k : tie.Need-add-k Inv-loop μ-loop
 add-k c = let l = c .before .before .before .loop .inv .0 in omega arith

@@ -10,13 +10,18 @@ use Rattle.tally.proofs.write_window.Statement.{statement}
 use Rattle.tally.proofs.write_window.Tie as tie
 
 abbrev Inv-loop : tie.InvT-loop
-Inv-loop table base ids₀ counts₀ start at₀ k₀ ids counts at k = (k ≤ 8192) × (at ≡ start + length (seenIds base k table)) × (ids ≡ sets ids₀ start (seenIds base k table)) × (counts ≡ sets counts₀ start (seenCounts base k table))
+Inv-loop table base ids₀ counts₀ start at₀ k₀ ids counts at k =
+    (k ≤ 8192) × (at ≡ start + length (seenIds base k table)) × (ids ≡ sets ids₀ start (seenIds base k table)) × (counts ≡ sets counts₀ start (seenCounts base k table))
 
 abbrev μ-loop : tie.MeasureT-loop
 μ-loop table base ids₀ counts₀ start at₀ k₀ ids counts at k = length table - k
 
 loop-holds : tie.Need-loop-holds Inv-loop μ-loop
-loop-holds c = let a = c .before .before .before .args in let f : ℕ → ℕ = λ (v : ℕ). getD (a .table .now) (v - a .base) 0 in let e = ap length (span-none (a .base) f (λ (v : ℕ). v)) in (omega arith, omega arith, ap (sets (a .ids .now) (a .start)) (sym (span-none (a .base) f (λ (v : ℕ). v))), ap (sets (a .counts .now) (a .start)) (sym (span-none (a .base) f f)))
+loop-holds c =
+    let a = c .before .before .before .args in
+    let f : ℕ → ℕ = λ (v : ℕ). getD (a .table .now) (v - a .base) 0 in
+    let e = ap length (span-none (a .base) f (λ (v : ℕ). v)) in
+    (omega arith, omega arith, ap (sets (a .ids .now) (a .start)) (sym (span-none (a .base) f (λ (v : ℕ). v))), ap (sets (a .counts .now) (a .start)) (sym (span-none (a .base) f f)))
 
 add-note : tie.Need-add-note Inv-loop μ-loop
 add-note c = let h = c .before .before .before .before .before .before .before .pre .1 in let i = c .before .before .before .loop .inv .0 in omega arith
@@ -30,7 +35,8 @@ shared-slice-read-note c = c .before .before .before .loop-test .taken
 note-requires : tie.Need-note-requires Inv-loop μ-loop
 note-requires c κs = let s = c .before .before .before .before .before .before .before .before in let a = s .args in let l = c .before .before .before .before .loop in let t = c .before .before .before .loop-test .taken in let p = s .pre .0 in let h = s .pre .1 in let j : l .k < 8192 = omega arith in
     let q = seen-length (a .base) (l .k) (a .table .now) in let r = seen-room (a .base) (l .k) (a .table .now) j in let m = l .inv .1 in
-    let li = ap length (l .inv .2) ∙ length-sets (a .ids .now) (a .start) (seenIds (a .base) (l .k) (a .table .now)) in let lc = ap length (l .inv .3) ∙ length-sets (a .counts .now) (a .start) (seenCounts (a .base) (l .k) (a .table .now)) in
+    let li = ap length (l .inv .2) ∙ length-sets (a .ids .now) (a .start) (seenIds (a .base) (l .k) (a .table .now)) in
+    let lc = ap length (l .inv .3) ∙ length-sets (a .counts .now) (a .start) (seenCounts (a .base) (l .k) (a .table .now)) in
     let x = s .pre .2 in let y = s .pre .3 in (omega arith, omega arith, omega arith)
 
 add-k : tie.Need-add-k Inv-loop μ-loop
@@ -41,7 +47,10 @@ loop-less c = let t = c .before .before .before .before .before .before .before 
 
 loop-again : tie.Need-loop-again Inv-loop μ-loop
 loop-again c = let a = c .before .before .before .before .before .before .before .before .before .before .before .before .before .args in let l = c .before .before .before .before .before .before .before .before .before .loop in let t = c .before .before .before .before .before .before .before .before .loop-test .taken in let p = c .before .before .before .before .before .before .before .before .before .before .before .before .before .pre .0 in let n = c .before .before .before .before .note .ensures in
-    let q = seen-length (a .base) (l .k) (a .table .now) in let m = l .inv .1 in let r = n .0 in let f : ℕ → ℕ = λ (v : ℕ). getD (a .table .now) (v - a .base) 0 in
+    let q = seen-length (a .base) (l .k) (a .table .now) in
+    let m = l .inv .1 in
+    let r = n .0 in
+    let f : ℕ → ℕ = λ (v : ℕ). getD (a .table .now) (v - a .base) 0 in
     let z = span-length (a .base) (l .k) f (λ (v : ℕ). v) f in (
       omega arith,
       omega arith,
@@ -50,10 +59,16 @@ loop-again c = let a = c .before .before .before .before .before .before .before
     )
 
 same-length : tie.Need-same-length Inv-loop μ-loop
-same-length c = let a = c .before .before .before .before .before .args in let l = c .before .loop in ap length (l .inv .2) ∙ length-sets (a .ids .now) (a .start) (seenIds (a .base) (l .k) (a .table .now))
+same-length c =
+    let a = c .before .before .before .before .before .args in
+    let l = c .before .loop in
+    ap length (l .inv .2) ∙ length-sets (a .ids .now) (a .start) (seenIds (a .base) (l .k) (a .table .now))
 
 same-length-2 : tie.Need-same-length-2 Inv-loop μ-loop
-same-length-2 c = let a = c .before .before .before .before .before .args in let l = c .before .loop in ap length (l .inv .3) ∙ length-sets (a .counts .now) (a .start) (seenCounts (a .base) (l .k) (a .table .now))
+same-length-2 c =
+    let a = c .before .before .before .before .before .args in
+    let l = c .before .loop in
+    ap length (l .inv .3) ∙ length-sets (a .counts .now) (a .start) (seenCounts (a .base) (l .k) (a .table .now))
 
 returns : tie.Need-returns Inv-loop μ-loop
 unfolding windowIds windowCounts

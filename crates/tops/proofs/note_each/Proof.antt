@@ -13,13 +13,17 @@ use Rattle.tops.proofs.note_each.Statement.{statement}
 use Rattle.tops.proofs.note_each.Tie as tie
 
 abbrev Inv-loop : tie.InvT-loop
-Inv-loop w o xs floors eases heights₀ biomes₀ size z₀ heights biomes z = (z ≤ o .size) × (heights ≡ tab (z * o .size) (columnHeight w o) ++ drop (z * o .size) heights₀) × (biomes ≡ tab (z * o .size) (columnBiome w o) ++ drop (z * o .size) biomes₀)
+Inv-loop w o xs floors eases heights₀ biomes₀ size z₀ heights biomes z =
+    (z ≤ o .size) × (heights ≡ tab (z * o .size) (columnHeight w o) ++ drop (z * o .size) heights₀) × (biomes ≡ tab (z * o .size) (columnBiome w o) ++ drop (z * o .size) biomes₀)
 
 abbrev μ-loop : tie.MeasureT-loop
 μ-loop w o xs floors eases heights₀ biomes₀ size z₀ heights biomes z = o .size - z
 
 loop-holds : tie.Need-loop-holds Inv-loop μ-loop
-loop-holds c = let s = c .before .before .before .before .before in let o = s .args .o in (omega arith, none (columnHeight (s .args .w) o) (s .args .heights .now) (o .size), none (columnBiome (s .args .w) o) (s .args .biomes .now) (o .size))
+loop-holds c =
+    let s = c .before .before .before .before .before in
+    let o = s .args .o in
+    (omega arith, none (columnHeight (s .args .w) o) (s .args .heights .now) (o .size), none (columnBiome (s .args .w) o) (s .args .biomes .now) (o .size))
 
 note-row-requires : tie.Need-note-row-requires Inv-loop μ-loop
 note-row-requires c κs =
@@ -32,8 +36,10 @@ note-row-requires c κs =
     let d : l .z * o .size + o .size ≤ o .size * o .size = row-fits (l .z) (o .size) t in
     let gh : o .size * o .size ≤ length (s .args .heights .now) = s .pre .3 in
     let gb : o .size * o .size ≤ length (s .args .biomes .now) = s .pre .4 in
-    let lh : length (l .heights) ≡ length (s .args .heights .now) = ap length (l .inv .1) ∙ fill-length (s .args .heights .now) (l .z * o .size) (columnHeight (s .args .w) o) (omega arith) in
-    let lb : length (l .biomes) ≡ length (s .args .biomes .now) = ap length (l .inv .2) ∙ fill-length (s .args .biomes .now) (l .z * o .size) (columnBiome (s .args .w) o) (omega arith) in
+    let lh : length (l .heights) ≡ length (s .args .heights .now) =
+    ap length (l .inv .1) ∙ fill-length (s .args .heights .now) (l .z * o .size) (columnHeight (s .args .w) o) (omega arith) in
+    let lb : length (l .biomes) ≡ length (s .args .biomes .now) =
+    ap length (l .inv .2) ∙ fill-length (s .args .biomes .now) (l .z * o .size) (columnBiome (s .args .w) o) (omega arith) in
     (s .pre .0, s .pre .1, t, s .pre .2, omega arith, omega arith)
 
 add-z : tie.Need-add-z Inv-loop μ-loop
@@ -86,8 +92,10 @@ same-length c =
     let e : l .z * o .size ≡ o .size * o .size = ap (λ (k : ℕ). k * o .size) (le-antisymm i t) in
     let gh : o .size * o .size ≤ length (s .args .heights .now) = s .pre .3 in
     let gb : o .size * o .size ≤ length (s .args .biomes .now) = s .pre .4 in
-    let lh : length (l .heights) ≡ length (s .args .heights .now) = ap length (l .inv .1) ∙ fill-length (s .args .heights .now) (l .z * o .size) (columnHeight (s .args .w) o) (omega arith) in
-    let lb : length (l .biomes) ≡ length (s .args .biomes .now) = ap length (l .inv .2) ∙ fill-length (s .args .biomes .now) (l .z * o .size) (columnBiome (s .args .w) o) (omega arith) in
+    let lh : length (l .heights) ≡ length (s .args .heights .now) =
+    ap length (l .inv .1) ∙ fill-length (s .args .heights .now) (l .z * o .size) (columnHeight (s .args .w) o) (omega arith) in
+    let lb : length (l .biomes) ≡ length (s .args .biomes .now) =
+    ap length (l .inv .2) ∙ fill-length (s .args .biomes .now) (l .z * o .size) (columnBiome (s .args .w) o) (omega arith) in
     lh
 
 same-length-2 : tie.Need-same-length-2 Inv-loop μ-loop
@@ -100,8 +108,10 @@ same-length-2 c =
     let e : l .z * o .size ≡ o .size * o .size = ap (λ (k : ℕ). k * o .size) (le-antisymm i t) in
     let gh : o .size * o .size ≤ length (s .args .heights .now) = s .pre .3 in
     let gb : o .size * o .size ≤ length (s .args .biomes .now) = s .pre .4 in
-    let lh : length (l .heights) ≡ length (s .args .heights .now) = ap length (l .inv .1) ∙ fill-length (s .args .heights .now) (l .z * o .size) (columnHeight (s .args .w) o) (omega arith) in
-    let lb : length (l .biomes) ≡ length (s .args .biomes .now) = ap length (l .inv .2) ∙ fill-length (s .args .biomes .now) (l .z * o .size) (columnBiome (s .args .w) o) (omega arith) in
+    let lh : length (l .heights) ≡ length (s .args .heights .now) =
+    ap length (l .inv .1) ∙ fill-length (s .args .heights .now) (l .z * o .size) (columnHeight (s .args .w) o) (omega arith) in
+    let lb : length (l .biomes) ≡ length (s .args .biomes .now) =
+    ap length (l .inv .2) ∙ fill-length (s .args .biomes .now) (l .z * o .size) (columnBiome (s .args .w) o) (omega arith) in
     lb
 
 returns : tie.Need-returns Inv-loop μ-loop

@@ -18,7 +18,12 @@ use Rattle.tops.proofs.note_row.Statement.{statement}
 use Rattle.tops.proofs.note_row.Tie as tie
 
 along-requires : tie.Need-along-requires
-along-requires c κs = let s = c .before .before .before .before .before .before in let p : Near (s .args .o) = s .pre .1 in let m = p .most in let h : s .args .z < s .args .o .size = s .pre .2 in (subst (λ (u : ℤ). mag u ≤ 1000000) (sym (back (s .args .o .oz) (p .z))) (p .z), omega arith)
+along-requires c κs =
+    let s = c .before .before .before .before .before .before in
+    let p : Near (s .args .o) = s .pre .1 in
+    let m = p .most in
+    let h : s .args .z < s .args .o .size = s .pre .2 in
+    (subst (λ (u : ℤ). mag u ≤ 1000000) (sym (back (s .args .o .oz) (p .z))) (p .z), omega arith)
 
 of-i32-requires : tie.Need-of-i32-requires
 of-i32-requires c κs = search needs
@@ -51,7 +56,15 @@ slice-aggregate-ridge-rows-2 : tie.Need-slice-aggregate-ridge-rows-2
 slice-aggregate-ridge-rows-2 c = search needs
 
 ridge-rows-requires : tie.Need-ridge-rows-requires
-ridge-rows-requires c κs = let s = c .before .before .before .before .before .before .before .before .before .before .before .before .before .before .before .before .before .before .before .before .before .before .before in let o = s .args .o in let p : Near o = s .pre .1 in let pm : o .size ≤ 64 = p .most in let t : Laid (s .args .w) o (s .args .xs .now) (s .args .floors .now) (s .args .eases .now) = s .pre .3 in (pm, t .long, t .longer, pm, pm)
+ridge-rows-requires c κs =
+    let c23 =
+    c .before .before .before .before .before .before .before .before .before .before .before .before .before .before .before .before .before .before .before .before .before .before .before in
+    let s = c23 in
+    let o = s .args .o in
+    let p : Near o = s .pre .1 in
+    let pm : o .size ≤ 64 = p .most in
+    let t : Laid (s .args .w) o (s .args .xs .now) (s .args .floors .now) (s .args .eases .now) = s .pre .3 in
+    (pm, t .long, t .longer, pm, pm)
 
 slice-aggregate-lowland-rows : tie.Need-slice-aggregate-lowland-rows
 slice-aggregate-lowland-rows c = search needs
@@ -63,7 +76,15 @@ slice-aggregate-lowland-rows-3 : tie.Need-slice-aggregate-lowland-rows-3
 slice-aggregate-lowland-rows-3 c = search needs
 
 lowland-rows-requires : tie.Need-lowland-rows-requires
-lowland-rows-requires c κs = let s = c .before .before .before .before .before .before .before .before .before .before .before .before .before .before .before .before .before .before .before .before .before .before .before .before .before .before .before .before .before in let o = s .args .o in let p : Near o = s .pre .1 in let pm : o .size ≤ 64 = p .most in let t : Laid (s .args .w) o (s .args .xs .now) (s .args .floors .now) (s .args .eases .now) = s .pre .3 in (pm, t .long, t .longer, pm, pm, pm)
+lowland-rows-requires c κs =
+    let c29 =
+    c .before .before .before .before .before .before .before .before .before .before .before .before .before .before .before .before .before .before .before .before .before .before .before .before .before .before .before .before .before in
+    let s = c29 in
+    let o = s .args .o in
+    let p : Near o = s .pre .1 in
+    let pm : o .size ≤ 64 = p .most in
+    let t : Laid (s .args .w) o (s .args .xs .now) (s .args .floors .now) (s .args .eases .now) = s .pre .3 in
+    (pm, t .long, t .longer, pm, pm, pm)
 
 slice-aggregate-put-row : tie.Need-slice-aggregate-put-row
 slice-aggregate-put-row c = search needs
@@ -98,18 +119,26 @@ slice-aggregate-put-row-10 c = search needs
 put-row-requires : tie.Need-put-row-requires
 unfolding zAt
 put-row-requires c κs =
-    let s = c .before .before .before .before .before .before .before .before .before .before .before .before .before .before .before .before .before .before .before .before .before .before .before .before .before .before .before .before .before .before .before .before .before .before .before .before .before .before .before .before .before .before .before .before .before in
+    let c15 = c .before .before .before .before .before .before .before .before .before .before .before .before .before .before .before in
+    let c21 = c15 .before .before .before .before .before .before in
+    let c27 = c21 .before .before .before .before .before .before in
+    let c33 = c27 .before .before .before .before .before .before in
+    let c37 = c33 .before .before .before .before in
+    let c38 = c37 .before in
+    let c45 = c38 .before .before .before .before .before .before .before in
+    let s = c45 in
     let o = s .args .o in
     let w = s .args .w in
     let p : Near o = s .pre .1 in
     let t : Laid w o (s .args .xs .now) (s .args .floors .now) (s .args .eases .now) = s .pre .3 in
     let xr = t .places in
-    let wz = read w32 (c .before .before .before .before .before .before .before .before .before .before .before .before .before .before .before .before .before .before .before .before .before .before .before .before .before .before .before .before .before .before .before .before .before .before .before .before .before .before .along .ok) (c .before .before .before .before .before .before .before .before .before .before .before .before .before .before .before .before .before .before .before .before .before .before .before .before .before .before .before .before .before .before .before .before .before .before .before .before .before .before .along .ensures ∙ ap (λ (u : ℤ). u +ℤ pos (s .args .z)) (back (o .oz) (p .z))) in
-    let vz = ap (λ (u : Float). u +f w .«seed_offset») (c .before .before .before .before .before .before .before .before .before .before .before .before .before .before .before .before .before .before .before .before .before .before .before .before .before .before .before .before .before .before .before .before .before .before .before .before .before .of-i32 .ensures ∙ ap real wz) in
-    let cr = c .before .before .before .before .before .before .before .before .before .before .before .before .before .before .before .before .before .before .before .before .before .before .before .before .before .before .before .before .before .before .before .before .before .climate-rows .ensures .is (s .args .xs .now) (t .told) in
-    let hr = c .before .before .before .before .before .before .before .before .before .before .before .before .before .before .before .before .before .before .before .before .before .before .before .before .before .before .before .height-rows .ensures in
-    let rr = c .before .before .before .before .before .before .before .before .before .before .before .before .before .before .before .before .before .before .before .before .before .ridge-rows .ensures .is (s .args .xs .now) (t .told) in
-    let lr = c .before .before .before .before .before .before .before .before .before .before .before .before .before .before .before .lowland-rows .ensures .is (s .args .xs .now) (t .told) in (
+    let wz = read w32 (c38 .along .ok) (c38 .along .ensures ∙ ap (λ (u : ℤ). u +ℤ pos (s .args .z)) (back (o .oz) (p .z))) in
+    let vz = ap (λ (u : Float). u +f w .«seed_offset») (c37 .of-i32 .ensures ∙ ap real wz) in
+    let cr = c33 .climate-rows .ensures .is (s .args .xs .now) (t .told) in
+    let hr = c27 .height-rows .ensures in
+    let rr = c21 .ridge-rows .ensures .is (s .args .xs .now) (t .told) in
+    let lr =
+    c15 .lowland-rows .ensures .is (s .args .xs .now) (t .told) in (
       s .pre .0,
       p,
       s .pre .2,

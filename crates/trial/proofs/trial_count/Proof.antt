@@ -12,7 +12,8 @@ use Rattle.trial.proofs.trial_count.Statement.{statement}
 use Rattle.trial.proofs.trial_count.Tie as tie
 
 abbrev Inv-loop : tie.InvT-loop
-Inv-loop cells size edits part₀ n total₀ start₀ part total start = (start ≤ n + 16384) × (total ≡ countTo start (laid size edits (length edits / 4) cells)) × (length part ≡ 16384)
+Inv-loop cells size edits part₀ n total₀ start₀ part total start =
+    (start ≤ n + 16384) × (total ≡ countTo start (laid size edits (length edits / 4) cells)) × (length part ≡ 16384)
 
 abbrev μ-loop : tie.MeasureT-loop
 μ-loop cells size edits part₀ n total₀ start₀ part total start = n + 16384 - start
@@ -30,7 +31,8 @@ copy-part-requires c κs =
     (l .inv .2, omega arith, omega arith)
 
 lay-part-requires : tie.Need-lay-part-requires Inv-loop μ-loop
-lay-part-requires c κs = (ap length (c .before .before .before .copy-part .ensures) ∙ part-length _ _, c .before .before .before .before .before .before .before .before .before .before .pre .0 .most)
+lay-part-requires c κs =
+    (ap length (c .before .before .before .copy-part .ensures) ∙ part-length _ _, c .before .before .before .before .before .before .before .before .before .before .pre .0 .most)
 
 count-non-air-requires : tie.Need-count-non-air-requires Inv-loop μ-loop
 count-non-air-requires c κs = tt
@@ -43,7 +45,9 @@ add-total c =
     let t : l .start < length (a .cells .now) = c .before .before .before .before .before .before .before .before .before .before .loop-test .taken in
     let n = length (a .edits .now) / 4 in
     let d = laid (a .size) (a .edits .now) n (a .cells .now) in
-    let p = c .before .before .before .before .lay-part .ensures ∙ ap (partLaid (l .start) (a .size) (a .edits .now) n) (c .before .before .before .before .before .before .before .before .copy-part .ensures) in
+    let p =
+    c .before .before .before .before .lay-part .ensures
+    ∙ ap (partLaid (l .start) (a .size) (a .edits .now) n) (c .before .before .before .before .before .before .before .before .copy-part .ensures) in
     let q = p ∙ part-laid (l .start) (a .size) (a .edits .now) n (a .cells .now) (s .pre .0 .all) in
     let f : c .count-non-air .result ≡ nonAirCount (partOf (l .start) d) = c .count-non-air .ensures ∙ ap nonAirCount q in
     let e = l .inv .1 in
@@ -56,14 +60,17 @@ add-total c =
 add-start : tie.Need-add-start Inv-loop μ-loop
 add-start c =
     let s = c .before .before .before .before .before .before .before .before .before .before .before .before .before .before .before in
-    let t : c .before .before .before .before .before .before .before .before .before .before .before .loop .start < length (s .args .cells .now) = c .before .before .before .before .before .before .before .before .before .before .loop-test .taken in
+    let t : c .before .before .before .before .before .before .before .before .before .before .before .loop .start < length (s .args .cells .now) =
+    c .before .before .before .before .before .before .before .before .before .before .loop-test .taken in
     let g = s .pre .0 .all in
     let h = cube-most (s .args .size) (s .pre .0 .most) in
     omega arith
 
 loop-less : tie.Need-loop-less Inv-loop μ-loop
 loop-less c =
-    let t : c .before .before .before .before .before .before .before .before .before .before .before .loop .start < length (c .before .before .before .before .before .before .before .before .before .before .before .before .before .before .before .args .cells .now) = c .before .before .before .before .before .before .before .before .before .before .loop-test .taken in omega arith
+    let t : c .before .before .before .before .before .before .before .before .before .before .before .loop .start < length (c .before .before .before .before .before .before .before .before .before .before .before .before .before .before .before .args .cells .now) =
+    c .before .before .before .before .before .before .before .before .before .before .loop-test .taken in
+    omega arith
 
 loop-again : tie.Need-loop-again Inv-loop μ-loop
 loop-again c =
@@ -73,7 +80,9 @@ loop-again c =
     let t : l .start < length (a .cells .now) = c .before .before .before .before .before .before .before .before .before .before .loop-test .taken in
     let n = length (a .edits .now) / 4 in
     let d = laid (a .size) (a .edits .now) n (a .cells .now) in
-    let p = c .before .before .before .before .lay-part .ensures ∙ ap (partLaid (l .start) (a .size) (a .edits .now) n) (c .before .before .before .before .before .before .before .before .copy-part .ensures) in
+    let p =
+    c .before .before .before .before .lay-part .ensures
+    ∙ ap (partLaid (l .start) (a .size) (a .edits .now) n) (c .before .before .before .before .before .before .before .before .copy-part .ensures) in
     let q = p ∙ part-laid (l .start) (a .size) (a .edits .now) n (a .cells .now) (s .pre .0 .all) in
     let e = l .inv .1 in
     let f : c .count-non-air .result ≡ nonAirCount (partOf (l .start) d) = c .count-non-air .ensures ∙ ap nonAirCount q in

@@ -18,7 +18,10 @@ gap-requires : tie.Need-gap-requires
 gap-requires c κs = search needs
 
 returns : tie.Need-returns
-returns c = let s = c .before in let a = s .args in ap (λ (u : ℤ). ltZ u (pos 3)) (read w64 (c .gap .ok) (c .gap .ensures ∙ ap₂ _-ℤ_ (toZ-pos w32 (a .h) (let f = s .fits .h .fits in omega arith)) (toZ-ofZ w32 (a .sea) (s .fits .sea))))
+returns c =
+    let s = c .before in
+    let a = s .args in
+    ap (λ (u : ℤ). ltZ u (pos 3)) (read w64 (c .gap .ok) (c .gap .ensures ∙ ap₂ _-ℤ_ (toZ-pos w32 (a .h) (let f = s .fits .h .fits in omega arith)) (toZ-ofZ w32 (a .sea) (s .fits .sea))))
 
 pub low-spec : {M : Type 1} → statement M
 low-spec = tie.close (tie.spec cast-gap gap-requires returns)

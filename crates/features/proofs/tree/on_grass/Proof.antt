@@ -21,7 +21,10 @@ see-requires : tie.Need-see-requires
 see-requires c κs = search needs
 
 returns : tie.Need-returns
-returns c = let s = c .before .before .before in let a = s .args in ap (λ (u : ℕ). eqb u 3) (c .see .ensures ∙ ap (λ (k : ℕ). seeAt (a .size) (a .x) k (a .z) (a .cells .now)) (c .before .local-y .ensures ∙ ap (λ (u : ℤ). localY (a .size) u (pos (a .y - 1))) (back (a .oy) (s .pre .1))))
+returns c =
+    let s = c .before .before .before in
+    let a = s .args in
+    ap (λ (u : ℕ). eqb u 3) (c .see .ensures ∙ ap (λ (k : ℕ). seeAt (a .size) (a .x) k (a .z) (a .cells .now)) (c .before .local-y .ensures ∙ ap (λ (u : ℤ). localY (a .size) u (pos (a .y - 1))) (back (a .oy) (s .pre .1))))
 
 pub on-grass-spec : {M : Type 1} → statement M
 on-grass-spec = tie.close (tie.spec sub-local-y local-y-requires see-requires returns)

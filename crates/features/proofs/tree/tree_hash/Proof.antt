@@ -29,7 +29,11 @@ hash2-requires c κs = search needs
 
 returns : tie.Need-returns
 unfolding treeHash
-returns c = let s = c .before .before .before .before .before in let a = s .args in c .hash2 .ensures ∙ ap₂ hash2₃₂ (read w32 (c .before .before .before .wrapping-add .ok) (c .before .before .before .wrapping-add .ensures ∙ ap (λ (u : ℤ). addW u (pos 1337)) (read w32 (c .before .before .before .before .wrapping-mul .ok) (c .before .before .before .before .wrapping-mul .ensures ∙ ap (λ (u : ℤ). mulW u (pos 7)) (toZ-ofZ w32 (a .wx) (s .fits .wx)))))) (read w32 (c .before .wrapping-add2 .ok) (c .before .wrapping-add2 .ensures ∙ ap (λ (u : ℤ). addW u (pos 7331)) (read w32 (c .before .before .wrapping-mul2 .ok) (c .before .before .wrapping-mul2 .ensures ∙ ap (λ (u : ℤ). mulW u (pos 13)) (toZ-ofZ w32 (a .wz) (s .fits .wz))))))
+returns c =
+    let s = c .before .before .before .before .before in
+    let a = s .args in
+    c .hash2 .ensures
+    ∙ ap₂ hash2₃₂ (read w32 (c .before .before .before .wrapping-add .ok) (c .before .before .before .wrapping-add .ensures ∙ ap (λ (u : ℤ). addW u (pos 1337)) (read w32 (c .before .before .before .before .wrapping-mul .ok) (c .before .before .before .before .wrapping-mul .ensures ∙ ap (λ (u : ℤ). mulW u (pos 7)) (toZ-ofZ w32 (a .wx) (s .fits .wx)))))) (read w32 (c .before .wrapping-add2 .ok) (c .before .wrapping-add2 .ensures ∙ ap (λ (u : ℤ). addW u (pos 7331)) (read w32 (c .before .before .wrapping-mul2 .ok) (c .before .before .wrapping-mul2 .ensures ∙ ap (λ (u : ℤ). mulW u (pos 13)) (toZ-ofZ w32 (a .wz) (s .fits .wz))))))
 
 pub tree-hash-spec : {M : Type 1} → statement M
 tree-hash-spec =

@@ -23,7 +23,11 @@ hash2-requires c κs = search needs
 
 returns : tie.Need-returns
 unfolding varietyOf
-returns c = let s = c .before .before .before in let a = s .args in c .hash2 .ensures ∙ ap₂ hash2₃₂ (read w32 (c .before .before .wrapping-add .ok) (c .before .before .wrapping-add .ensures ∙ ap (λ (u : ℤ). addW u (pos 42)) (toZ-ofZ w32 (a .wx) (s .fits .wx)))) (read w32 (c .before .wrapping-add2 .ok) (c .before .wrapping-add2 .ensures ∙ ap (λ (u : ℤ). addW u (pos 99)) (toZ-ofZ w32 (a .wz) (s .fits .wz))))
+returns c =
+    let s = c .before .before .before in
+    let a = s .args in
+    c .hash2 .ensures
+    ∙ ap₂ hash2₃₂ (read w32 (c .before .before .wrapping-add .ok) (c .before .before .wrapping-add .ensures ∙ ap (λ (u : ℤ). addW u (pos 42)) (toZ-ofZ w32 (a .wx) (s .fits .wx)))) (read w32 (c .before .wrapping-add2 .ok) (c .before .wrapping-add2 .ensures ∙ ap (λ (u : ℤ). addW u (pos 99)) (toZ-ofZ w32 (a .wz) (s .fits .wz))))
 
 pub variety-spec : {M : Type 1} → statement M
 variety-spec =
