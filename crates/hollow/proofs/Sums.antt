@@ -1,13 +1,18 @@
 -- Sums of octaves along a row, one octave more at a time. Assumes nothing.
 use mathlib.Core.Path.{_≡_, ap, _∙_, subst}
 use mathlib.Core.List.{List}
-use Prim.Native.Nat.{ℕ, _<_}
+use Prim.Native.Nat.{ℕ, _≤_, _<_}
+use native.Mathlib.Omega.{arith}
 use lib.Ieee.{Float}
 use Rattle.column.specs.Floats.{_+f_, _*f_}
 use Rattle.noise_tables.specs.Row.{Row}
 use Rattle.noise_layers.specs.Layers.{rowMore}
 use Rattle.hollow.specs.Layers.{levelAt, depthAt}
 use Rattle.hollow.specs.Fields.{oneOf}
+
+-- a row holds the same in fewer of its places
+pub row-less : {n m : ℕ} {f : ℕ → Float} {l : List Float} → n ≤ m → Row m f l → Row n f l
+row-less k r = record { long = (let h = r .long in omega arith); holds = λ (i : ℕ) h. r .holds i (omega arith) }
 
 module _ (y z n : ℕ) (eases edges : List Float) where
   -- octave o is added to what the row holds

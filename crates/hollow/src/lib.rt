@@ -7,6 +7,7 @@ ghost use lib.ListN.{length};
 ghost use Rattle.column.specs.Floats.{real};
 ghost use Rattle.noise_tables.specs.Row.{Row};
 ghost use Rattle.noise_tables.specs.Places.{Noted};
+ghost use Rattle.noise_rows.specs.Sums.{zeroAt};
 ghost use Rattle.cave_coords.specs.Coords.{coordOf};
 ghost use Rattle.ravines.specs.Cuts.{Cuts};
 ghost use Rattle.terrain.specs.World.{Near};
@@ -14,7 +15,6 @@ ghost use Rattle.hollow.specs.Layers.{Room, AllLayers};
 ghost use Rattle.hollow.specs.Fields.{sum3Of, sum2Of, hollowOf, Judged, Hollow};
 use noise_layers::add_row;
 use noise_layers::layer_rows;
-use noise_rows::clear;
 use terrain::world::Frame;
 use terrain::world::along;
 use words::num::clamp;
@@ -63,29 +63,37 @@ fn raise_layers(
     }
 }
 
+fn no_sums() -> [f32; 64]
+    ensures { λ r. ⌜ Row 64 zeroAt r ⌝ }
+{
+    [0.0f32; 64]
+}
+
 // The sums of three octaves from o on, for each cell of the row.
-fn sum3(o: usize, y: usize, z: usize, n: usize, eases: &[f32], edges: &[f32], sums: &mut [f32])
-    requires { ⌜ (o ≤ 5) × (y < 64) × (z < 64) × (n ≤ 64) × (length (now eases) ≡ 1728) × (length (now edges) ≡ 2048) × (n ≤ length (now sums)) ⌝ }
-    ensures { λ _. ⌜ Row n (sum3Of o y z (now (eases .entry)) (now (edges .entry))) (now (sums .exit)) ⌝ }
+fn sum3(o: usize, y: usize, z: usize, n: usize, eases: &[f32], edges: &[f32]) -> [f32; 64]
+    requires { ⌜ (o ≤ 5) × (y < 64) × (z < 64) × (n ≤ 64) × (length (now eases) ≡ 1728) × (length (now edges) ≡ 2048) ⌝ }
+    ensures { λ r. ⌜ Row n (sum3Of o y z (now (eases .entry)) (now (edges .entry))) r ⌝ }
 {
     let ky = o * 64 + 704 + y;
     let kz = o * 64 + 1216 + z;
-    clear(n, sums);
-    add_row(o, ky, kz, 1.0, n, eases, edges, sums);
-    add_row(o + 1, ky + 64, kz + 64, 0.5, n, eases, edges, sums);
-    add_row(o + 2, ky + 128, kz + 128, 0.25, n, eases, edges, sums);
+    let mut sums = no_sums();
+    add_row(o, ky, kz, 1.0, n, eases, edges, &mut sums);
+    add_row(o + 1, ky + 64, kz + 64, 0.5, n, eases, edges, &mut sums);
+    add_row(o + 2, ky + 128, kz + 128, 0.25, n, eases, edges, &mut sums);
+    sums
 }
 
 // The same of two octaves.
-fn sum2(o: usize, y: usize, z: usize, n: usize, eases: &[f32], edges: &[f32], sums: &mut [f32])
-    requires { ⌜ (o ≤ 6) × (y < 64) × (z < 64) × (n ≤ 64) × (length (now eases) ≡ 1728) × (length (now edges) ≡ 2048) × (n ≤ length (now sums)) ⌝ }
-    ensures { λ _. ⌜ Row n (sum2Of o y z (now (eases .entry)) (now (edges .entry))) (now (sums .exit)) ⌝ }
+fn sum2(o: usize, y: usize, z: usize, n: usize, eases: &[f32], edges: &[f32]) -> [f32; 64]
+    requires { ⌜ (o ≤ 6) × (y < 64) × (z < 64) × (n ≤ 64) × (length (now eases) ≡ 1728) × (length (now edges) ≡ 2048) ⌝ }
+    ensures { λ r. ⌜ Row n (sum2Of o y z (now (eases .entry)) (now (edges .entry))) r ⌝ }
 {
     let ky = o * 64 + 704 + y;
     let kz = o * 64 + 1216 + z;
-    clear(n, sums);
-    add_row(o, ky, kz, 1.0, n, eases, edges, sums);
-    add_row(o + 1, ky + 64, kz + 64, 0.5, n, eases, edges, sums);
+    let mut sums = no_sums();
+    add_row(o, ky, kz, 1.0, n, eases, edges, &mut sums);
+    add_row(o + 1, ky + 64, kz + 64, 0.5, n, eases, edges, &mut sums);
+    sums
 }
 
 // One cell: a and b are the sums of the spaghetti caves' fields, c that of the caverns', and cut says whether the
@@ -124,8 +132,7 @@ fn judge(
     }
 }
 
-// Which cells of the row at z are hollow at level y. The edges have the layers of the level `from`, and then those of y;
-// a, b and c are room for the sums.
+// Which cells of the row at z are hollow at level y. The edges have the layers of the level `from`, and then those of y.
 pub fn hollow_row(
     f: Frame,
     from: usize,
@@ -136,19 +143,16 @@ pub fn hollow_row(
     floors: &[u32],
     eases: &[f32],
     edges: &mut [f32],
-    a: &mut [f32],
-    b: &mut [f32],
-    c: &mut [f32],
     flags: &mut [bool],
 )
-    requires { ⌜ Near f × (from < f .size) × (y < f .size) × (z < f .size) × (f .size * f .size ≤ length (now heights)) × Cuts f z (now cuts) × Noted (f .size) 27 (coordOf f) (now floors) (now eases) × Room y z (f .size) (now floors) (now eases) (now edges) × AllLayers from z (f .size) (now floors) (now eases) (now edges) × (f .size ≤ length (now a)) × (f .size ≤ length (now b)) × (f .size ≤ length (now c)) × (f .size ≤ length (now flags)) ⌝ }
+    requires { ⌜ Near f × (from < f .size) × (y < f .size) × (z < f .size) × (f .size * f .size ≤ length (now heights)) × Cuts f z (now cuts) × Noted (f .size) 27 (coordOf f) (now floors) (now eases) × Room y z (f .size) (now floors) (now eases) (now edges) × AllLayers from z (f .size) (now floors) (now eases) (now edges) × (f .size ≤ length (now flags)) ⌝ }
     ensures { λ _. ⌜ AllLayers y z (f .size) (now (floors .entry)) (now (eases .entry)) (now (edges .exit)) × Hollow f y z (now (heights .entry)) (now (flags .exit)) ⌝ }
 {
     let n = f.size;
     raise_layers(from, y, z, n, floors, eases, edges);
-    sum3(0, y, z, n, eases, edges, a);
-    sum3(3, y, z, n, eases, edges, b);
-    sum2(6, y, z, n, eases, edges, c);
+    let a = sum3(0, y, z, n, eases, edges);
+    let b = sum3(3, y, z, n, eases, edges);
+    let c = sum2(6, y, z, n, eases, edges);
     let wy = along(f.oy, y);
-    judge(of_i32(wy), z * n, n, heights, cuts, a, b, c, flags);
+    judge(of_i32(wy), z * n, n, heights, cuts, &a, &b, &c, flags);
 }

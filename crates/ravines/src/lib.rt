@@ -34,21 +34,15 @@ fn cut_row(f: Frame, z: f32, vals: &[f32], cuts: &mut [bool])
     }
 }
 
-// The tables are those of `cave_coords`; vals is room for the row's noise.
-pub fn note_cuts(
-    f: Frame,
-    z: usize,
-    floors: &[u32],
-    eases: &[f32],
-    vals: &mut [f32],
-    cuts: &mut [bool],
-)
-    requires { ⌜ Near f × (z < f .size) × Noted (f .size) 27 (coordOf f) (now floors) (now eases) × (length (now floors) ≡ 1728) × (length (now eases) ≡ 1728) × (f .size ≤ length (now vals)) × (f .size ≤ length (now cuts)) ⌝ }
+// The tables are those of `cave_coords`.
+pub fn note_cuts(f: Frame, z: usize, floors: &[u32], eases: &[f32], cuts: &mut [bool])
+    requires { ⌜ Near f × (z < f .size) × Noted (f .size) 27 (coordOf f) (now floors) (now eases) × (length (now floors) ≡ 1728) × (length (now eases) ≡ 1728) × (f .size ≤ length (now cuts)) ⌝ }
     ensures { λ _. ⌜ Cuts f z (now (cuts .exit)) ⌝ }
 {
     let n = f.size;
     let wz = along(f.oz, z);
     let v = of_i32(wz);
-    fbm_row(v * 0.01, 3, 512, n, floors, eases, vals);
-    cut_row(f, v, vals, cuts);
+    let mut vals = [0.0f32; 64];
+    fbm_row(v * 0.01, 3, 512, n, floors, eases, &mut vals);
+    cut_row(f, v, &vals, cuts);
 }

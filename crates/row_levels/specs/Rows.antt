@@ -13,13 +13,10 @@ use Rattle.cell_lines.specs.Lines.{belowLevel, Highest}
 use Rattle.terrain.specs.declared.world.Frame.{Frame}
 
 -- the lengths of what a row is worked out in
-pub record Lent (o : Frame) (floors : List ℕ) (eases edges a b c : List Float) (flags : List Bool) : Type 0 where
+pub record Lent (o : Frame) (floors : List ℕ) (eases edges : List Float) (flags : List Bool) : Type 0 where
   pub wholes : length floors ≡ 1728
   pub parts : length eases ≡ 1728
   pub rows : length edges ≡ 2048
-  pub first : o .size ≤ length a
-  pub second : o .size ≤ length b
-  pub third : o .size ≤ length c
   pub marks : o .size ≤ length flags
 
 -- the row at z is ready to be laid: caves lie from lo on below hi, and for these the ravines and the layers of a level are there

@@ -31,30 +31,13 @@ fn mark_line(
     floors: &[u32],
     eases: &[f32],
     edges: &mut [f32],
-    a: &mut [f32],
-    b: &mut [f32],
-    c: &mut [f32],
     flags: &mut [bool],
 ) -> usize
-    requires { ⌜ Near o × (y < o .size) × (z < o .size) × Ready o z lo hi from (now heights) (now cuts) (now floors) (now eases) (now edges) × Lent o (now floors) (now eases) (now edges) (now a) (now b) (now c) (now flags) ⌝ }
+    requires { ⌜ Near o × (y < o .size) × (z < o .size) × Ready o z lo hi from (now heights) (now cuts) (now floors) (now eases) (now edges) × Lent o (now floors) (now eases) (now edges) (now flags) ⌝ }
     ensures { λ r. ⌜ Ready o z lo hi r (now (heights .entry)) (now (cuts .entry)) (now (floors .entry)) (now (eases .entry)) (now (edges .exit)) × Flagged o y z (now (heights .entry)) (now (flags .exit)) ⌝ }
 {
     if (lo <= y) & (y < hi) {
-        hollow_row(
-            o,
-            from,
-            y,
-            z,
-            heights,
-            cuts,
-            floors,
-            eases,
-            edges,
-            a,
-            b,
-            c,
-            flags,
-        );
+        hollow_row(o, from, y, z, heights, cuts, floors, eases, edges, flags);
         return y;
     }
     from
@@ -73,13 +56,10 @@ fn lay_levels(
     floors: &[u32],
     eases: &[f32],
     edges: &mut [f32],
-    a: &mut [f32],
-    b: &mut [f32],
-    c: &mut [f32],
     flags: &mut [bool],
     cells: &mut [u16],
 )
-    requires { ⌜ Tall w × Near o × (z < o .size) × Noted w o (now heights) (now biomes) × Ready o z lo hi lo (now heights) (now cuts) (now floors) (now eases) (now edges) × Lent o (now floors) (now eases) (now edges) (now a) (now b) (now c) (now flags) × DoneTo w o (z * o .size) (now cells) ⌝ }
+    requires { ⌜ Tall w × Near o × (z < o .size) × Noted w o (now heights) (now biomes) × Ready o z lo hi lo (now heights) (now cuts) (now floors) (now eases) (now edges) × Lent o (now floors) (now eases) (now edges) (now flags) × DoneTo w o (z * o .size) (now cells) ⌝ }
     ensures { λ _. ⌜ DoneTo w o (z * o .size + o .size) (now (cells .exit)) ⌝ }
 {
     let mut from = lo;
@@ -97,9 +77,6 @@ fn lay_levels(
             floors,
             eases,
             edges,
-            a,
-            b,
-            c,
             flags,
         );
         lay_line(w, o, y, z, heights, biomes, flags, cells);
@@ -116,16 +93,15 @@ fn begin_row(
     floors: &[u32],
     eases: &[f32],
     edges: &mut [f32],
-    a: &mut [f32],
     cuts: &mut [bool],
 )
-    requires { ⌜ Near o × (hi ≤ o .size) × (z < o .size) × places.Noted (o .size) 27 (coordOf o) (now floors) (now eases) × (length (now floors) ≡ 1728) × (length (now eases) ≡ 1728) × (length (now edges) ≡ 2048) × (o .size ≤ length (now a)) × (o .size ≤ length (now cuts)) ⌝ }
+    requires { ⌜ Near o × (hi ≤ o .size) × (z < o .size) × places.Noted (o .size) 27 (coordOf o) (now floors) (now eases) × (length (now floors) ≡ 1728) × (length (now eases) ≡ 1728) × (length (now edges) ≡ 2048) × (o .size ≤ length (now cuts)) ⌝ }
     ensures { λ _. ⌜ Begun o z lo hi (now (cuts .exit)) (now (floors .entry)) (now (eases .entry)) (now (edges .exit)) ⌝ }
 {
     if lo >= hi {
         return;
     }
-    note_cuts(o, z, floors, eases, a, cuts);
+    note_cuts(o, z, floors, eases, cuts);
     first_layers(lo, z, o.size, floors, eases, edges);
 }
 
@@ -139,21 +115,18 @@ pub fn lay_row(
     floors: &[u32],
     eases: &[f32],
     edges: &mut [f32],
-    a: &mut [f32],
-    b: &mut [f32],
-    c: &mut [f32],
     cuts: &mut [bool],
     flags: &mut [bool],
     cells: &mut [u16],
 )
-    requires { ⌜ Tall w × Near o × (z < o .size) × Noted w o (now heights) (now biomes) × places.Noted (o .size) 27 (coordOf o) (now floors) (now eases) × Lent o (now floors) (now eases) (now edges) (now a) (now b) (now c) (now flags) × (o .size ≤ length (now cuts)) × DoneTo w o (z * o .size) (now cells) ⌝ }
+    requires { ⌜ Tall w × Near o × (z < o .size) × Noted w o (now heights) (now biomes) × places.Noted (o .size) 27 (coordOf o) (now floors) (now eases) × Lent o (now floors) (now eases) (now edges) (now flags) × (o .size ≤ length (now cuts)) × DoneTo w o (z * o .size) (now cells) ⌝ }
     ensures { λ _. ⌜ DoneTo w o (z * o .size + o .size) (now (cells .exit)) ⌝ }
 {
     let size = o.size;
     let top = row_top(z, size, heights);
     let lo = below_level(o.oy, 1, size);
     let hi = below_level(o.oy, (top as usize) - 1, size);
-    begin_row(o, lo, hi, z, floors, eases, edges, a, cuts);
+    begin_row(o, lo, hi, z, floors, eases, edges, cuts);
     lay_levels(
         w,
         o,
@@ -166,9 +139,6 @@ pub fn lay_row(
         floors,
         eases,
         edges,
-        a,
-        b,
-        c,
         flags,
         cells,
     );

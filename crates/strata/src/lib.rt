@@ -22,14 +22,11 @@ fn lay_rows(
     floors: &[u32],
     eases: &[f32],
     edges: &mut [f32],
-    a: &mut [f32],
-    b: &mut [f32],
-    c: &mut [f32],
     cuts: &mut [bool],
     flags: &mut [bool],
     cells: &mut [u16],
 )
-    requires { ⌜ Tall w × Near o × Noted w o (now heights) (now biomes) × places.Noted (o .size) 27 (coordOf o) (now floors) (now eases) × Lent o (now floors) (now eases) (now edges) (now a) (now b) (now c) (now flags) × (o .size ≤ length (now cuts)) × Cube (o .size) (now cells) ⌝ }
+    requires { ⌜ Tall w × Near o × Noted w o (now heights) (now biomes) × places.Noted (o .size) 27 (coordOf o) (now floors) (now eases) × Lent o (now floors) (now eases) (now edges) (now flags) × (o .size ≤ length (now cuts)) × Cube (o .size) (now cells) ⌝ }
     ensures { λ _. ⌜ now (cells .exit) ≡ baseCells w o ⌝ }
 {
     let size = o.size;
@@ -44,9 +41,6 @@ fn lay_rows(
             floors,
             eases,
             edges,
-            a,
-            b,
-            c,
             cuts,
             flags,
             cells,
@@ -61,12 +55,6 @@ fn no_flags() -> [bool; 64]
     [false; 64]
 }
 
-fn no_sums() -> [f32; 64]
-    ensures { λ r. ⌜ length r ≡ 64 ⌝ }
-{
-    [0.0f32; 64]
-}
-
 // Lays every cell. The chunk's coordinates are noted once for all rows.
 pub fn lay_base(w: World, o: Frame, heights: &[u16], biomes: &[u8], cells: &mut [u16])
     requires { ⌜ Tall w × Near o × Noted w o (now heights) (now biomes) × Cube (o .size) (now cells) ⌝ }
@@ -75,12 +63,10 @@ pub fn lay_base(w: World, o: Frame, heights: &[u16], biomes: &[u8], cells: &mut 
     let mut floors = [0u32; 1728];
     let mut eases = [0.0f32; 1728];
     let mut edges = [0.0f32; 2048];
-    let mut a = no_sums();
-    let mut b = no_sums();
-    let mut c = no_sums();
     let mut cuts = no_flags();
     let mut flags = no_flags();
-    note_coords(o, &mut a, &mut floors, &mut eases);
+    let mut ts = [0.0f32; 64];
+    note_coords(o, &mut ts, &mut floors, &mut eases);
     lay_rows(
         w,
         o,
@@ -89,9 +75,6 @@ pub fn lay_base(w: World, o: Frame, heights: &[u16], biomes: &[u8], cells: &mut 
         &floors,
         &eases,
         &mut edges,
-        &mut a,
-        &mut b,
-        &mut c,
         &mut cuts,
         &mut flags,
         cells,

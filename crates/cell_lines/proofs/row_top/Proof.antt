@@ -78,7 +78,18 @@ loop-less c =
     omega arith
 
 loop-again : tie.Need-loop-again Inv-loop μ-loop
-loop-again c = let s = c .before .before .before .before in let z = s .pre .0 in let m = s .pre .1 in let k = s .pre .2 in let t : c .before .before .before .loop .x < s .args .size = c .before .before .loop-test .taken in let d = digits-lt z t in let b = square (s .args .size) (s .args .size) m m in let l = c .before .before .before .loop in let u = c .before .shared-slice-known .given (s .args .z * s .args .size + l .x) in let g = l .inv .1 in let gm = g .most in
+loop-again c =
+    let s = c .before .before .before .before in
+    let z = s .pre .0 in
+    let m = s .pre .1 in
+    let k = s .pre .2 in
+    let t : c .before .before .before .loop .x < s .args .size = c .before .before .loop-test .taken in
+    let d = digits-lt z t in
+    let b = square (s .args .size) (s .args .size) m m in
+    let l = c .before .before .before .loop in
+    let u = c .before .shared-slice-known .given (s .args .z * s .args .size + l .x) in
+    let g = l .inv .1 in
+    let gm = g .most in
     let h = getD (s .args .heights .now) (s .args .z * s .args .size + l .x) 0 in
     let r = ⊎-elim {C = (l .top ≤ c .if1 .top) × (h ≤ c .if1 .top) × (c .if1 .top < 65536)}
     (λ w. let a = w .0 .taken in let e = w .1 in (omega arith, omega arith, omega arith))

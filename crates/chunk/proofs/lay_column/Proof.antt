@@ -35,7 +35,10 @@ loop-less : tie.Need-loop-less Inv-loop μ-loop
 loop-less c = omega (arith, c .before .before .before .before .loop-test .taken)
 
 loop-again : tie.Need-loop-again Inv-loop μ-loop
-loop-again c = let l = c .before .before .before .before .before .loop in let a = c .before .before .before .before .before .before .before .args in let t : l .y < a .h = c .before .before .before .before .loop-test .taken in
+loop-again c =
+    let l = c .before .before .before .before .before .loop in
+    let a = c .before .before .before .before .before .before .before .args in
+    let t : l .y < a .h = c .before .before .before .before .loop-test .taken in
     (omega arith, c .before .before .put .ensures ∙ ap (putAt (a .size) (a .x) (l .y) (a .z) (a .id)) (l .inv .1) ∙ lay-more _ _ _ _ _ _)
 
 same-length : tie.Need-same-length Inv-loop μ-loop

@@ -68,7 +68,13 @@ loop-less : tie.Need-loop-less Inv-loop μ-loop
 loop-less c = let l = c .before .before .before .loop in simp length-set (omega arith)
 
 loop-again : tie.Need-loop-again Inv-loop μ-loop
-loop-again c = let s = c .before .before .before .before .before .before in let a = s .args in let l = c .before .before .before .loop in let f : ℕ → ℕ = λ (j : ℕ). getD (a .cells .now) (borderSource (a .face) (a .size) j) 0 in let t : l .k < length (l .border) = c .before .before .loop-test .taken in let u = l .inv .1 in
+loop-again c =
+    let s = c .before .before .before .before .before .before in
+    let a = s .args in
+    let l = c .before .before .before .loop in
+    let f : ℕ → ℕ = λ (j : ℕ). getD (a .cells .now) (borderSource (a .face) (a .size) j) 0 in
+    let t : l .k < length (l .border) = c .before .before .loop-test .taken in
+    let u = l .inv .1 in
     (omega arith, length-set (l .border) (l .k) _ ∙ u, ap (λ (i : ℕ). set (l .border) (l .k) (getD (a .cells .now) i 0)) (c .before .source .ensures) ∙ ap (λ (d : List ℕ). set d (l .k) (f (l .k))) (l .inv .2) ∙ fill-more (a .border .now) (l .k) f (omega arith))
 
 same-length : tie.Need-same-length Inv-loop μ-loop
@@ -76,7 +82,14 @@ same-length c = c .before .loop .inv .1
 
 returns : tie.Need-returns Inv-loop μ-loop
 unfolding borderOf
-returns c = let s = c .before .before .before .before in let a = s .args in let l = c .before .loop in let f : ℕ → ℕ = λ (j : ℕ). getD (a .cells .now) (borderSource (a .face) (a .size) j) 0 in let u = l .inv .1 in let v = l .inv .0 in let t : length (l .border) ≤ l .k = c .loop-test .left in
+returns c =
+    let s = c .before .before .before .before in
+    let a = s .args in
+    let l = c .before .loop in
+    let f : ℕ → ℕ = λ (j : ℕ). getD (a .cells .now) (borderSource (a .face) (a .size) j) 0 in
+    let u = l .inv .1 in
+    let v = l .inv .0 in
+    let t : length (l .border) ≤ l .k = c .loop-test .left in
     l .inv .2 ∙ fill-all (a .border .now) f (l .k) (omega arith) ∙ ap (λ (j : ℕ). tab j f) (s .pre .1)
 
 pub copy-border-spec : {M : Type 1} → statement M

@@ -38,14 +38,27 @@ loop-less : tie.Need-loop-less Inv-loop μ-loop
 loop-less c = omega arith
 
 loop-again : tie.Need-loop-again Inv-loop μ-loop
-loop-again c = let s = c .before .before .before in let a = s .args in let l = c .before .before .loop in let b = a .blocks .now in let e = s .pre in let t : l .i < length b = c .before .loop-test .taken in
+loop-again c =
+    let s = c .before .before .before in
+    let a = s .args in
+    let l = c .before .before .loop in
+    let b = a .blocks .now in
+    let e = s .pre in
+    let t : l .i < length b = c .before .loop-test .taken in
     (omega arith, length-set (l .cells) (l .i) (getD b (l .i) 0) ∙ l .inv .1, ap (λ (d : List ℕ). set d (l .i) (getD b (l .i) 0)) (l .inv .2) ∙ fill-more (a .cells .now) (l .i) (λ (k : ℕ). getD b k 0) (omega arith))
 
 same-length : tie.Need-same-length Inv-loop μ-loop
 same-length c = c .before .loop .inv .1
 
 returns : tie.Need-returns Inv-loop μ-loop
-returns c = let s = c .before .before in let a = s .args in let l = c .before .loop in let b = a .blocks .now in let e = s .pre in let t : length b ≤ l .i = c .loop-test .left in let u = l .inv .0 in
+returns c =
+    let s = c .before .before in
+    let a = s .args in
+    let l = c .before .loop in
+    let b = a .blocks .now in
+    let e = s .pre in
+    let t : length b ≤ l .i = c .loop-test .left in
+    let u = l .inv .0 in
     l .inv .2 ∙ fill-all (a .cells .now) (λ (k : ℕ). getD b k 0) (l .i) (omega arith) ∙ ap (λ (k : ℕ). tab k (λ (j : ℕ). getD b j 0)) e ∙ tab-list b
 
 pub copy-spec : {M : Type 1} → statement M

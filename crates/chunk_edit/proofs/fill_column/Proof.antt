@@ -44,14 +44,24 @@ non-air-requires : tie.Need-non-air-requires
 non-air-requires c κs = search needs
 
 mul-after : tie.Need-mul-after
-mul-after c = let h = chunk-passed _ _ (sym (c .before .before .before .before .before .refuse-chunk .ensures) ∙ c .before .before .before .before .if1 .left) in let a = c .before .before .before .before .before .before .before .args in let m = height-most (a .size) (a .x) (a .z) (a .height) in let e = c .before .before .before .column-height .ensures in let k = h .most in
+mul-after c =
+    let h = chunk-passed _ _ (sym (c .before .before .before .before .before .refuse-chunk .ensures) ∙ c .before .before .before .before .if1 .left) in
+    let a = c .before .before .before .before .before .before .before .args in
+    let m = height-most (a .size) (a .x) (a .z) (a .height) in
+    let e = c .before .before .before .column-height .ensures in
+    let k = h .most in
     let n = non-air-most (a .id) in
     let o = c .non-air .ensures in
     let p : c .before .before .before .column-height .result * c .non-air .result ≤ 64 = column-small _ _ (omega arith) (omega arith) in
     omega arith
 
 refuse-count-requires : tie.Need-refuse-count-requires
-refuse-count-requires c κs = let h = chunk-passed _ _ (sym (c .before .before .before .before .before .refuse-chunk .ensures) ∙ c .before .before .before .before .if1 .left) in let a = c .before .before .before .before .before .before .before .args in let m = height-most (a .size) (a .x) (a .z) (a .height) in let e = c .before .before .before .column-height .ensures in let k = h .most in
+refuse-count-requires c κs =
+    let h = chunk-passed _ _ (sym (c .before .before .before .before .before .refuse-chunk .ensures) ∙ c .before .before .before .before .if1 .left) in
+    let a = c .before .before .before .before .before .before .before .args in
+    let m = height-most (a .size) (a .x) (a .z) (a .height) in
+    let e = c .before .before .before .column-height .ensures in
+    let k = h .most in
     let n = non-air-most (a .id) in
     let o = c .non-air .ensures in
     let p : c .before .before .before .column-height .result * c .non-air .result ≤ 64 = column-small _ _ (omega arith) (omega arith) in
@@ -62,7 +72,11 @@ same-length c = search needs
 
 returns-2 : tie.Need-returns-2
 unfolding fillDoes
-returns-2 c = let b = c .before .before .before .before .before in let e = sym (b .before .before .refuse-chunk .ensures) ∙ b .before .if1 .left in let h = chunk-passed _ _ e in let a = b .before .before .before .before .args in
+returns-2 c =
+    let b = c .before .before .before .before .before in
+    let e = sym (b .before .before .refuse-chunk .ensures) ∙ b .before .if1 .left in
+    let h = chunk-passed _ _ e in
+    let a = b .before .before .before .before .args in
     let m =
     fill-moves (a .size) (a .x) (a .z) (a .height) (a .id) _ _ _ (a .cells .now) (h .all) (b .column-height .ensures) (c .before .before .before .column-count .ensures) (ap (λ (k : ℕ). b .column-height .result * k) (c .before .before .non-air .ensures)) in
     edit-count _ _ _ [] _ _ _ _ e m _ (c .before .refuse-count .ensures) (c .if2 .taken)
@@ -77,7 +91,14 @@ lay-column-requires c κs =
     (cube-of (a .size) (a .cells .now) h, omega arith)
 
 add-t18 : tie.Need-add-t18
-add-t18 c = let b = c .before .before .before .before .before .before .before .before .before in let h = chunk-passed _ _ (sym (b .before .before .refuse-chunk .ensures) ∙ b .before .if1 .left) in let a = b .before .before .before .before .args in let m = height-most (a .size) (a .x) (a .z) (a .height) in let e = b .column-height .ensures in let k = h .most in let l = cube-most _ (h .most) in
+add-t18 c =
+    let b = c .before .before .before .before .before .before .before .before .before in
+    let h = chunk-passed _ _ (sym (b .before .before .refuse-chunk .ensures) ∙ b .before .if1 .left) in
+    let a = b .before .before .before .before .args in
+    let m = height-most (a .size) (a .x) (a .z) (a .height) in
+    let e = b .column-height .ensures in
+    let k = h .most in
+    let l = cube-most _ (h .most) in
     let n = non-air-most (a .id) in
     let o = c .before .before .before .before .before .before .non-air .ensures in
     let p : b .column-height .result * c .before .before .before .before .before .before .non-air .result ≤ 64 = column-small _ _ (omega arith) (omega arith) in
@@ -93,7 +114,11 @@ same-length-2 c = search needs
 
 returns-3 : tie.Need-returns-3
 unfolding fillDoes
-returns-3 c = let b = c .before .before .before .before .before .before .before .before .before in let e = sym (b .before .before .refuse-chunk .ensures) ∙ b .before .if1 .left in let h = chunk-passed _ _ e in let a = b .before .before .before .before .args in
+returns-3 c =
+    let b = c .before .before .before .before .before .before .before .before .before in
+    let e = sym (b .before .before .refuse-chunk .ensures) ∙ b .before .if1 .left in
+    let h = chunk-passed _ _ e in
+    let a = b .before .before .before .before .args in
     let v = c .before .before .before .before .before .before .non-air in let n = c .before .before .before .before .before .before .before .column-count in
     let m =
     fill-moves (a .size) (a .x) (a .z) (a .height) (a .id) _ _ _ (a .cells .now) (h .all) (b .column-height .ensures) (n .ensures) (ap (λ (k : ℕ). b .column-height .result * k) (v .ensures)) in

@@ -55,7 +55,11 @@ refuse-count-requires c κs =
 
 returns-2 : tie.Need-returns-2
 unfolding setDoes
-returns-2 c = let b = c .before .before .before .before .before in let e = sym (b .before .before .refuse-cell .ensures) ∙ b .before .if1 .left in let h = cell-passed _ _ _ _ _ e in let a = b .before .before .before .before .args in
+returns-2 c =
+    let b = c .before .before .before .before .before in
+    let e = sym (b .before .before .refuse-cell .ensures) ∙ b .before .if1 .left in
+    let h = cell-passed _ _ _ _ _ e in
+    let a = b .before .before .before .before .args in
     let m =
     set-moves (a .size) (a .x) (a .y) (a .z) (a .id) _ _ _ (a .cells .now) h (b .cell-index .ensures) (c .before .before .before .non-air .ensures) (c .before .before .non-air2 .ensures) in
     edit-count _ _ _ [] _ _ _ _ e m _ (c .before .refuse-count .ensures) (c .if2 .taken)
@@ -99,7 +103,11 @@ same-length c = search needs
 
 returns-3 : tie.Need-returns-3
 unfolding setDoes
-returns-3 c = let b = c .before .before .before .before .before in let e = sym (b .before .before .refuse-cell .ensures) ∙ b .before .if1 .left in let h = cell-passed _ _ _ _ _ e in let a = b .before .before .before .before .args in
+returns-3 c =
+    let b = c .before .before .before .before .before in
+    let e = sym (b .before .before .refuse-cell .ensures) ∙ b .before .if1 .left in
+    let h = cell-passed _ _ _ _ _ e in
+    let a = b .before .before .before .before .args in
     let m =
     set-moves (a .size) (a .x) (a .y) (a .z) (a .id) _ _ _ (a .cells .now) h (b .cell-index .ensures) (c .before .before .before .non-air .ensures) (c .before .before .non-air2 .ensures) in
     ap (λ (d : List ℕ). outcome (accepted ((a .count + c .before .before .non-air2 .result - c .before .before .before .non-air .result) ∷ [])) d) (set-lays (a .size) (a .x) (a .y) (a .z) (a .id) _ (a .cells .now) h (b .cell-index .ensures))

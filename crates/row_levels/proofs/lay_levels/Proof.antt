@@ -49,8 +49,7 @@ lay-line-requires c κs =
     let c12 = c .before .before .before .before .before .before .before .before .before .before .before .before in
     let c18 = c12 .before .before .before .before .before .before in
     let c20 = c18 .before .before in
-    let c32 = c20 .before .before .before .before .before .before .before .before .before .before .before .before in
-    let s = c32 in
+    let s = c20 .before .before .before .before .before .before .before .before .before .before .before .before in
     (s .pre .0, s .pre .1, c18 .if1 .taken, s .pre .2, s .pre .3, c12 .mark-line .ensures .1, c20 .loop .inv .1)
 
 add-y : tie.Need-add-y Inv-loop μ-loop
@@ -76,7 +75,14 @@ loop-less c =
     omega arith
 
 loop-again : tie.Need-loop-again Inv-loop μ-loop
-loop-again c = let s = c .before .before .before .before .before .before .before .before .before .before .before .before .before .before .before .before .before .before .before .before .before .before .before .before .before .before .before .before .before .before .before .before .before .before .before in let l = c .before .before .before .before .before .before .before .before .before .before .before .before .before .before .before .before .before .before .before .before .before .before .before .loop in let m = s .pre .1 .most in let t : l .y < s .args .o .size = c .before .before .before .before .before .before .before .before .before .before .before .before .before .before .before .before .before .before .before .before .before .if1 .taken in
+loop-again c =
+    let s =
+    c .before .before .before .before .before .before .before .before .before .before .before .before .before .before .before .before .before .before .before .before .before .before .before .before .before .before .before .before .before .before .before .before .before .before .before in
+    let l =
+    c .before .before .before .before .before .before .before .before .before .before .before .before .before .before .before .before .before .before .before .before .before .before .before .loop in
+    let m = s .pre .1 .most in
+    let t : l .y < s .args .o .size =
+    c .before .before .before .before .before .before .before .before .before .before .before .before .before .before .before .before .before .before .before .before .before .if1 .taken in
     let e : s .args .z * s .args .o .size + l .y + 1 ≡ s .args .z * s .args .o .size + (l .y + 1) = omega arith in (
       omega arith,
       done-at e (c .before .before .lay-line .ensures),

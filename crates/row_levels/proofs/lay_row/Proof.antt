@@ -36,7 +36,7 @@ begin-row-requires c κs =
     let s =
     c .before .before .before .before .before .before .before .before .before .before .before .before .before .before .before .before .before .before .before in
     let n = s .pre .5 in
-    (s .pre .1, subst (λ (u : ℕ). u ≤ s .args .o .size) (sym (c .before .before .before .below-level2 .ensures)) (below-most (s .args .o .size) _ _), s .pre .2, s .pre .4, n .wholes, n .parts, n .rows, n .first, s .pre .6)
+    (s .pre .1, subst (λ (u : ℕ). u ≤ s .args .o .size) (sym (c .before .before .before .below-level2 .ensures)) (below-most (s .args .o .size) _ _), s .pre .2, s .pre .4, n .wholes, n .parts, n .rows, s .pre .6)
 
 lay-levels-requires : tie.Need-lay-levels-requires
 lay-levels-requires c κs =
@@ -55,9 +55,7 @@ lay-levels-requires c κs =
     let high : hi ≡ belowLevel (o .size) (o .oy) (top - 1) =
     c .before .before .before .before .before .before .before .before .before .before .before .before .before .before .before .before .before .below-level2 .ensures
     ∙ ap (λ (u : ℤ). belowLevel (o .size) u (top - 1)) oy in
-    let most : hi ≤ o .size = subst (λ (u : ℕ). u ≤ o .size) (sym high) (below-most (o .size) (o .oy) (top - 1)) in
-    let a = n .first in
-    let g = c .before .before .before .before .before .before .before .before .before .before .a .given in (
+    let most : hi ≤ o .size = subst (λ (u : ℕ). u ≤ o .size) (sym high) (below-most (o .size) (o .oy) (top - 1)) in (
       s .pre .0,
       s .pre .1,
       s .pre .2,
@@ -73,7 +71,7 @@ lay-levels-requires c κs =
         cut = b .cut;
         layers = λ h. (omega arith, b .layers h);
       },
-      record { wholes = n .wholes; parts = n .parts; rows = c .before .before .before .before .before .before .before .before .before .before .before .before .edges .given ∙ n .rows; first = omega arith; second = n .second; third = n .third; marks = n .marks },
+      record { wholes = n .wholes; parts = n .parts; rows = c .before .before .before .before .before .before .before .before .before .before .before .before .edges .given ∙ n .rows; marks = n .marks },
       s .pre .7,
     )
 

@@ -30,9 +30,6 @@ hollow-row-requires c κs =
       r .noted,
       record { level = omega arith; depth = omega arith; some = so; most = m; wholes = n .wholes; parts = n .parts; rows = n .rows },
       v .1,
-      n .first,
-      n .second,
-      n .third,
       n .marks,
     )
 

@@ -35,8 +35,7 @@ lay-row-requires : tie.Need-lay-row-requires Inv-loop μ-loop
 lay-row-requires c κs =
     let c7 = c .before .before .before .before .before .before .before in
     let c8 = c7 .before in
-    let c20 = c8 .before .before .before .before .before .before .before .before .before .before .before .before in
-    let s = c20 in
+    let s = c8 .before .before .before .before .before .before .before .before .before .before .before .before in
     let l = c8 .loop in
     let o = s .args .o in
     let t : l .z < o .size = c7 .loop-test .taken in

@@ -40,7 +40,10 @@ loop-less : tie.Need-loop-less Inv-loop μ-loop
 loop-less c = let t = c .before .before .before .before .before .loop-test .taken in omega arith
 
 loop-again : tie.Need-loop-again Inv-loop μ-loop
-loop-again c = let l = c .before .before .before .before .before .before .loop in let t : l .i < length (c .before .before .before .before .before .before .before .before .before .before .before .before .before .args .cells .now) = c .before .before .before .before .before .loop-test .taken in
+loop-again c =
+    let l = c .before .before .before .before .before .before .loop in
+    let t : l .i < length (c .before .before .before .before .before .before .before .before .before .before .before .before .before .args .cells .now) =
+    c .before .before .before .before .before .loop-test .taken in
     (omega arith, c .before .before .bump .ensures ∙ ap (bumpAt (c .before .before .before .before .before .before .before .before .before .before .before .before .before .args .base) (getD (c .before .before .before .before .before .before .before .before .before .before .before .before .before .args .cells .now) (l .i) 0)) (l .inv .1) ∙ bump-table (c .before .before .before .before .before .before .before .before .before .before .before .before .before .args .base) (c .before .before .before .before .before .before .before .before .before .before .before .before .before .args .cells .now) (l .i) t)
 
 same-length : tie.Need-same-length Inv-loop μ-loop

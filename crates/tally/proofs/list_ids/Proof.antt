@@ -32,7 +32,12 @@ mul-write-window : tie.Need-mul-write-window Inv-loop μ-loop
 mul-write-window c = let i = c .before .before .before .before .before .before .loop .inv .0 in omega arith
 
 write-window-requires : tie.Need-write-window-requires Inv-loop μ-loop
-write-window-requires c κs = let s = c .before .before .before .before .before .before .before .before .before .before .before .before .before in let a = s .args in let f = idCount (a .cells .now) in let l = c .before .before .before .before .before .before .before .before .loop in let t = c .before .before .before .before .before .before .before .loop-test .taken in
+write-window-requires c κs =
+    let s = c .before .before .before .before .before .before .before .before .before .before .before .before .before in
+    let a = s .args in
+    let f = idCount (a .cells .now) in
+    let l = c .before .before .before .before .before .before .before .before .loop in
+    let t = c .before .before .before .before .before .before .before .loop-test .taken in
     let tb = c .before .before .before .before .before .count-window .last .1 .1 .0 in
     let e = window-length (l .w) (a .cells .now) tb (c .before .before .before .before .before .count-window .ensures) in
     let m = prefix-most (l .w + 1) (a .cells .now) (omega arith) in
@@ -52,7 +57,14 @@ loop-less : tie.Need-loop-less Inv-loop μ-loop
 loop-less c = let t = c .before .before .before .before .before .before .before .before .before .before .before .before .loop-test .taken in omega arith
 
 loop-again : tie.Need-loop-again Inv-loop μ-loop
-loop-again c = let s = c .before .before .before .before .before .before .before .before .before .before .before .before .before .before .before .before .before .before in let a = s .args in let f = idCount (a .cells .now) in let l = c .before .before .before .before .before .before .before .before .before .before .before .before .before .loop in let t = c .before .before .before .before .before .before .before .before .before .before .before .before .loop-test .taken in let v = c .before .before .before .before .write-window .ensures in let u = c .before .before .before .before .before .before .before .before .before .before .count-window .ensures in
+loop-again c =
+    let s = c .before .before .before .before .before .before .before .before .before .before .before .before .before .before .before .before .before .before in
+    let a = s .args in
+    let f = idCount (a .cells .now) in
+    let l = c .before .before .before .before .before .before .before .before .before .before .before .before .before .loop in
+    let t = c .before .before .before .before .before .before .before .before .before .before .before .before .loop-test .taken in
+    let v = c .before .before .before .before .write-window .ensures in
+    let u = c .before .before .before .before .before .before .before .before .before .before .count-window .ensures in
     let tb = c .before .before .before .before .before .before .before .before .before .before .count-window .last .1 .1 .0 in
     let wi : List ℕ = windowIds (l .w * 8192) tb in
     let wc : List ℕ = windowCounts (l .w * 8192) tb in
@@ -100,7 +112,14 @@ same-length-3 c = c .before .loop .inv .4 ∙ sym (c .before .before .before .be
 
 returns : tie.Need-returns Inv-loop μ-loop
 unfolding presentIds presentCounts
-returns c = let a = c .before .before .before .before .before .before .args in let f = idCount (a .cells .now) in let l = c .before .loop in let i = l .inv .0 in let t = c .loop-test .left in let q : l .w * 8192 ≡ 65536 = omega arith in let n : l .at ≡ length (span 0 65536 f (λ (v : ℕ). v)) = l .inv .1 ∙ ap (λ (k : ℕ). length (span 0 k f (λ (v : ℕ). v))) q in
+returns c =
+    let a = c .before .before .before .before .before .before .args in
+    let f = idCount (a .cells .now) in
+    let l = c .before .loop in
+    let i = l .inv .0 in
+    let t = c .loop-test .left in
+    let q : l .w * 8192 ≡ 65536 = omega arith in
+    let n : l .at ≡ length (span 0 65536 f (λ (v : ℕ). v)) = l .inv .1 ∙ ap (λ (k : ℕ). length (span 0 k f (λ (v : ℕ). v))) q in
     (l .inv .2 ∙ ap₂ (λ (k : ℕ). λ (j : ℕ). span 0 k f (λ (v : ℕ). v) ++ drop j (a .ids .now)) q n, l .inv .3 ∙ ap₂ (λ (k : ℕ). λ (j : ℕ). span 0 k f f ++ drop j (a .counts .now)) q n)
 
 pub list-ids-spec : {M : Type 1} → statement M

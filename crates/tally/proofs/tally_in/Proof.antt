@@ -28,14 +28,27 @@ same-length : tie.Need-same-length
 same-length c = search needs
 
 returns-2 : tie.Need-returns-2
-returns-2 c = let a = c .before .before .before .before .before .before .before .before .before .before .before .args in let e = sym (c .before .before .before .before .before .before .refuse-chunk .ensures) ∙ c .before .before .before .before .before .if1 .left in let n = c .before .before .before .count-ids .ensures .0 in let t = c .if2 .taken in let l : length (a .ids .now) < length (presentIds (a .cells .now)) = omega arith in
+returns-2 c =
+    let a = c .before .before .before .before .before .before .before .before .before .before .before .args in
+    let e = sym (c .before .before .before .before .before .before .refuse-chunk .ensures) ∙ c .before .before .before .before .before .if1 .left in
+    let n = c .before .before .before .count-ids .ensures .0 in
+    let t = c .if2 .taken in
+    let l : length (a .ids .now) < length (presentIds (a .cells .now)) = omega arith in
     tally-refused (a .size) (a .cells .now) (a .ids .now) (a .counts .now) 13 (refuse-ids (a .size) (a .cells .now) (length (a .ids .now)) (length (a .counts .now)) e l) (λ q. omega arith)
 
 same-length-2 : tie.Need-same-length-2
 same-length-2 c = search needs
 
 returns-3 : tie.Need-returns-3
-returns-3 c = let a = c .before .before .before .before .before .before .before .before .before .before .before .before .args in let e = sym (c .before .before .before .before .before .before .before .refuse-chunk .ensures) ∙ c .before .before .before .before .before .before .if1 .left in let n = c .before .before .before .before .count-ids .ensures .0 in let t = c .before .if2 .left in let u = c .if3 .taken in let l : length (presentIds (a .cells .now)) ≤ length (a .ids .now) = omega arith in let k : length (a .counts .now) < length (presentIds (a .cells .now)) = omega arith in
+returns-3 c =
+    let a = c .before .before .before .before .before .before .before .before .before .before .before .before .args in
+    let e =
+    sym (c .before .before .before .before .before .before .before .refuse-chunk .ensures) ∙ c .before .before .before .before .before .before .if1 .left in
+    let n = c .before .before .before .before .count-ids .ensures .0 in
+    let t = c .before .if2 .left in
+    let u = c .if3 .taken in
+    let l : length (presentIds (a .cells .now)) ≤ length (a .ids .now) = omega arith in
+    let k : length (a .counts .now) < length (presentIds (a .cells .now)) = omega arith in
     tally-refused (a .size) (a .cells .now) (a .ids .now) (a .counts .now) 13 (refuse-counts (a .size) (a .cells .now) (length (a .ids .now)) (length (a .counts .now)) e l k) (λ q. omega arith)
 
 list-ids-requires : tie.Need-list-ids-requires
@@ -58,7 +71,17 @@ same-length-5 : tie.Need-same-length-5
 same-length-5 c = search needs
 
 returns-4 : tie.Need-returns-4
-returns-4 c = let a = c .before .before .before .before .before .before .before .before .before .before .before .before .before .before .before .before .before .before .before .before .before .before .args in let e = sym (c .before .before .before .before .before .before .before .before .before .before .before .before .before .before .before .before .before .refuse-chunk .ensures) ∙ c .before .before .before .before .before .before .before .before .before .before .before .before .before .before .before .before .if1 .left in let n = c .before .before .before .before .before .before .before .before .before .before .before .before .before .before .count-ids .ensures .0 in let t = c .before .before .before .before .before .before .before .before .before .before .before .if2 .left in let u = c .before .before .before .before .before .before .before .before .before .before .if3 .left in let l : length (presentIds (a .cells .now)) ≤ length (a .ids .now) = omega arith in let k : length (presentIds (a .cells .now)) ≤ length (a .counts .now) = omega arith in
+returns-4 c =
+    let a =
+    c .before .before .before .before .before .before .before .before .before .before .before .before .before .before .before .before .before .before .before .before .before .before .args in
+    let e =
+    sym (c .before .before .before .before .before .before .before .before .before .before .before .before .before .before .before .before .before .refuse-chunk .ensures)
+    ∙ c .before .before .before .before .before .before .before .before .before .before .before .before .before .before .before .before .if1 .left in
+    let n = c .before .before .before .before .before .before .before .before .before .before .before .before .before .before .count-ids .ensures .0 in
+    let t = c .before .before .before .before .before .before .before .before .before .before .before .if2 .left in
+    let u = c .before .before .before .before .before .before .before .before .before .before .if3 .left in
+    let l : length (presentIds (a .cells .now)) ≤ length (a .ids .now) = omega arith in
+    let k : length (presentIds (a .cells .now)) ≤ length (a .counts .now) = omega arith in
     tally-done (a .size) (a .cells .now) (a .ids .now) (a .counts .now) _ _ _ (refuse-none (a .size) (a .cells .now) (length (a .ids .now)) (length (a .counts .now)) e l k) n l k (c .before .before .before .before .before .before .list-ids .ensures .0) (c .before .before .before .before .before .before .list-ids .ensures .1)
 
 pub tally-in-spec : {M : Type 1} → statement M

@@ -46,13 +46,24 @@ loop-less : tie.Need-loop-less Inv-loop μ-loop
 loop-less c = let t = c .before .before .loop-test .taken in omega arith
 
 loop-again : tie.Need-loop-again Inv-loop μ-loop
-loop-again c = let a = c .before .before .before .before .before .args in let l = c .before .before .before .loop in let f : ℕ → ℕ = λ (v : ℕ). getD (a .table .now) (v - a .base) 0 in let t : l .k < length (a .table .now) = c .before .before .loop-test .taken in let p = c .before .before .before .before .before .pre .0 in
+loop-again c =
+    let a = c .before .before .before .before .before .args in
+    let l = c .before .before .before .loop in
+    let f : ℕ → ℕ = λ (v : ℕ). getD (a .table .now) (v - a .base) 0 in
+    let t : l .k < length (a .table .now) = c .before .before .loop-test .taken in
+    let p = c .before .before .before .before .before .pre .0 in
     let q : a .base + l .k - a .base ≡ l .k = omega arith in
     (omega arith, ap₂ (λ (i : ℕ). λ (j : ℕ). i + j) (l .inv .1) (c .one-if-listed .ensures ∙ ap (λ (j : ℕ). length (listIf (a .base + l .k) (getD (a .table .now) j 0) (a .base + l .k))) (sym q)) ∙ sym (length-append (span (a .base) (l .k) f (λ (v : ℕ). v)) (listIf (a .base + l .k) (f (a .base + l .k)) (a .base + l .k))) ∙ ap length (sym (span-more (a .base) (l .k) f (λ (v : ℕ). v))))
 
 returns : tie.Need-returns Inv-loop μ-loop
 unfolding windowIds
-returns c = let a = c .before .before .before .args in let l = c .before .loop in let p = c .before .before .before .pre .0 in let i = l .inv .0 in let t : length (a .table .now) ≤ l .k = c .loop-test .left in let q : l .k ≡ 8192 = omega arith in
+returns c =
+    let a = c .before .before .before .args in
+    let l = c .before .loop in
+    let p = c .before .before .before .pre .0 in
+    let i = l .inv .0 in
+    let t : length (a .table .now) ≤ l .k = c .loop-test .left in
+    let q : l .k ≡ 8192 = omega arith in
     l .inv .1 ∙ ap (λ (j : ℕ). length (span (a .base) j (λ (v : ℕ). getD (a .table .now) (v - a .base) 0) (λ (v : ℕ). v))) q
 
 pub window-len-spec : {M : Type 1} → statement M

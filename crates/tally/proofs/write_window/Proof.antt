@@ -33,7 +33,14 @@ shared-slice-read-note : tie.Need-shared-slice-read-note Inv-loop μ-loop
 shared-slice-read-note c = c .before .before .before .loop-test .taken
 
 note-requires : tie.Need-note-requires Inv-loop μ-loop
-note-requires c κs = let s = c .before .before .before .before .before .before .before .before in let a = s .args in let l = c .before .before .before .before .loop in let t = c .before .before .before .loop-test .taken in let p = s .pre .0 in let h = s .pre .1 in let j : l .k < 8192 = omega arith in
+note-requires c κs =
+    let s = c .before .before .before .before .before .before .before .before in
+    let a = s .args in
+    let l = c .before .before .before .before .loop in
+    let t = c .before .before .before .loop-test .taken in
+    let p = s .pre .0 in
+    let h = s .pre .1 in
+    let j : l .k < 8192 = omega arith in
     let q = seen-length (a .base) (l .k) (a .table .now) in let r = seen-room (a .base) (l .k) (a .table .now) j in let m = l .inv .1 in
     let li = ap length (l .inv .2) ∙ length-sets (a .ids .now) (a .start) (seenIds (a .base) (l .k) (a .table .now)) in
     let lc = ap length (l .inv .3) ∙ length-sets (a .counts .now) (a .start) (seenCounts (a .base) (l .k) (a .table .now)) in
@@ -46,7 +53,12 @@ loop-less : tie.Need-loop-less Inv-loop μ-loop
 loop-less c = let t = c .before .before .before .before .before .before .before .before .loop-test .taken in omega arith
 
 loop-again : tie.Need-loop-again Inv-loop μ-loop
-loop-again c = let a = c .before .before .before .before .before .before .before .before .before .before .before .before .before .args in let l = c .before .before .before .before .before .before .before .before .before .loop in let t = c .before .before .before .before .before .before .before .before .loop-test .taken in let p = c .before .before .before .before .before .before .before .before .before .before .before .before .before .pre .0 in let n = c .before .before .before .before .note .ensures in
+loop-again c =
+    let a = c .before .before .before .before .before .before .before .before .before .before .before .before .before .args in
+    let l = c .before .before .before .before .before .before .before .before .before .loop in
+    let t = c .before .before .before .before .before .before .before .before .loop-test .taken in
+    let p = c .before .before .before .before .before .before .before .before .before .before .before .before .before .pre .0 in
+    let n = c .before .before .before .before .note .ensures in
     let q = seen-length (a .base) (l .k) (a .table .now) in
     let m = l .inv .1 in
     let r = n .0 in
@@ -72,7 +84,13 @@ same-length-2 c =
 
 returns : tie.Need-returns Inv-loop μ-loop
 unfolding windowIds windowCounts
-returns c = let a = c .before .before .before .before .before .args in let l = c .before .loop in let p = c .before .before .before .before .before .pre .0 in let i = l .inv .0 in let t = c .loop-test .left in let q : l .k ≡ 8192 = omega arith in
+returns c =
+    let a = c .before .before .before .before .before .args in
+    let l = c .before .loop in
+    let p = c .before .before .before .before .before .pre .0 in
+    let i = l .inv .0 in
+    let t = c .loop-test .left in
+    let q : l .k ≡ 8192 = omega arith in
     (l .inv .1 ∙ ap (λ (j : ℕ). a .start + length (seenIds (a .base) j (a .table .now))) q, l .inv .2 ∙ ap (λ (j : ℕ). sets (a .ids .now) (a .start) (seenIds (a .base) j (a .table .now))) q, l .inv .3 ∙ ap (λ (j : ℕ). sets (a .counts .now) (a .start) (seenCounts (a .base) j (a .table .now))) q)
 
 pub write-window-spec : {M : Type 1} → statement M
