@@ -12,13 +12,7 @@ note-cuts-requires : tie.Need-note-cuts-requires
 note-cuts-requires c κs = search needs
 
 first-layers-requires : tie.Need-first-layers-requires
-first-layers-requires c κs =
-    let s = c .before .before .before .before .before .before .before .before .before .before .before .before .before .before in
-    let m = s .pre .0 .most in
-    let h = s .pre .1 in
-    let z = s .pre .2 in
-    let t = c .before .before .before .before .before .before .before .before .if1 .left in
-    record { level = omega arith; depth = omega arith; some = s .pre .0 .some; most = m; wholes = s .pre .4; parts = s .pre .5; rows = s .pre .6 }
+first-layers-requires c κs = search needs
 
 same-length : tie.Need-same-length
 same-length c = search needs
@@ -26,21 +20,10 @@ same-length c = search needs
 same-length-2 : tie.Need-same-length-2
 same-length-2 c = search needs
 
-same-length-3 : tie.Need-same-length-3
-same-length-3 c = search needs
-
 returns-2 : tie.Need-returns-2
-returns-2 c =
-    record { cut = λ h. c .before .before .before .before .before .before .before .before .note-cuts .ensures; layers = λ h. c .before .before .first-layers .ensures }
+returns-2 c = search needs
 
 pub begin-row-spec : {M : Type 1} → statement M
 begin-row-spec =
     tie.close
-    (tie.spec
-    returns
-    note-cuts-requires
-    first-layers-requires
-    same-length
-    same-length-2
-    same-length-3
-    returns-2)
+    (tie.spec returns note-cuts-requires first-layers-requires same-length same-length-2 returns-2)

@@ -10,88 +10,64 @@ use Rattle.row_levels.proofs.lay_levels.Statement.{statement}
 use Rattle.row_levels.proofs.lay_levels.Tie as tie
 
 abbrev Inv-loop : tie.InvT-loop
-Inv-loop w o z lo hi heights biomes cuts floors eases edges₀ a₀ b₀ c₀ flags₀ cells₀ from₀ y₀ edges a b c flags cells from y =
-    (y ≤ o .size) × DoneTo w o (z * o .size + y) cells × Ready o z lo hi from heights cuts floors eases edges × (length edges ≡ length edges₀) × (length a ≡ length a₀) × (length b ≡ length b₀) × (length c ≡ length c₀) × (length flags ≡ length flags₀)
+Inv-loop w o z lo hi heights biomes cuts floors eases edges₀ flags₀ cells₀ from₀ y₀ edges flags cells from y =
+    (y ≤ o .size) × DoneTo w o (z * o .size + y) cells × Ready o z lo hi from heights cuts floors eases edges × (length edges ≡ length edges₀) × (length flags ≡ length flags₀)
 
 abbrev μ-loop : tie.MeasureT-loop
-μ-loop w o z lo hi heights biomes cuts floors eases edges₀ a₀ b₀ c₀ flags₀ cells₀ from₀ y₀ edges a b c flags cells from y =
+μ-loop w o z lo hi heights biomes cuts floors eases edges₀ flags₀ cells₀ from₀ y₀ edges flags cells from y =
     o .size - y
 
 loop-holds : tie.Need-loop-holds Inv-loop μ-loop
 loop-holds c =
-    let s = c .before .before .before .before .before .before .before .before .before .before .before in
+    let s = c .before .before .before .before .before .before .before .before in
     let e : s .args .z * s .args .o .size ≡ s .args .z * s .args .o .size + 0 = omega arith in
-    (omega arith, subst (λ (u : ℕ). DoneTo (s .args .w) (s .args .o) u (s .args .cells .now)) e (s .pre .6), s .pre .4, refl, refl, refl, refl, refl)
+    (omega arith, subst (λ (u : ℕ). DoneTo (s .args .w) (s .args .o) u (s .args .cells .now)) e (s .pre .6), s .pre .4, refl, refl)
 
 mark-line-requires : tie.Need-mark-line-requires Inv-loop μ-loop
 mark-line-requires c κs =
-    let s =
-    c .before .before .before .before .before .before .before .before .before .before .before .before .before .before .before .before .before .before .before in
-    let l = c .before .before .before .before .before .before .before .loop in
+    let s = c .before .before .before .before .before .before .before .before .before .before .before .before .before in
+    let l = c .before .before .before .before .loop in
     let n = s .pre .5 in
-    let a = n .first in
-    let b = n .second in
-    let d = n .third in
     let g = n .marks in
-    let p = l .inv .4 in
-    let q = l .inv .5 in
-    let u = l .inv .6 in
-    let v = l .inv .7 in (
-      s .pre .1,
-      c .before .before .before .before .before .if1 .taken,
-      s .pre .2,
-      l .inv .2,
-      record { wholes = n .wholes; parts = n .parts; rows = l .inv .3 ∙ n .rows; first = omega arith; second = omega arith; third = omega arith; marks = omega arith },
-    )
+    let v = l .inv .4 in
+    (s .pre .1, c .before .before .if1 .taken, s .pre .2, l .inv .2, record { wholes = n .wholes; parts = n .parts; rows = l .inv .3 ∙ n .rows; marks = omega arith })
 
 lay-line-requires : tie.Need-lay-line-requires Inv-loop μ-loop
 lay-line-requires c κs =
-    let c12 = c .before .before .before .before .before .before .before .before .before .before .before .before in
-    let c18 = c12 .before .before .before .before .before .before in
-    let c20 = c18 .before .before in
-    let s = c20 .before .before .before .before .before .before .before .before .before .before .before .before in
-    (s .pre .0, s .pre .1, c18 .if1 .taken, s .pre .2, s .pre .3, c12 .mark-line .ensures .1, c20 .loop .inv .1)
+    let c6 = c .before .before .before .before .before .before in
+    let c9 = c6 .before .before .before in
+    let c11 = c9 .before .before in
+    let s = c11 .before .before .before .before .before .before .before .before .before in
+    (s .pre .0, s .pre .1, c9 .if1 .taken, s .pre .2, s .pre .3, c6 .mark-line .ensures .1, c11 .loop .inv .1)
 
 add-y : tie.Need-add-y Inv-loop μ-loop
 add-y c =
-    let s =
-    c .before .before .before .before .before .before .before .before .before .before .before .before .before .before .before .before .before .before .before .before .before .before .before .before .before .before .before .before .before .before .before .before .before .before .before in
-    let l =
-    c .before .before .before .before .before .before .before .before .before .before .before .before .before .before .before .before .before .before .before .before .before .before .before .loop in
+    let s = c .before .before .before .before .before .before .before .before .before .before .before .before .before .before .before .before .before .before .before .before .before .before .before in
+    let l = c .before .before .before .before .before .before .before .before .before .before .before .before .before .before .loop in
     let m = s .pre .1 .most in
-    let t : l .y < s .args .o .size =
-    c .before .before .before .before .before .before .before .before .before .before .before .before .before .before .before .before .before .before .before .before .before .if1 .taken in
+    let t : l .y < s .args .o .size = c .before .before .before .before .before .before .before .before .before .before .before .before .if1 .taken in
     omega arith
 
 loop-less : tie.Need-loop-less Inv-loop μ-loop
 loop-less c =
-    let s =
-    c .before .before .before .before .before .before .before .before .before .before .before .before .before .before .before .before .before .before .before .before .before .before .before .before .before .before .before .before .before .before .before .before .before .before .before in
-    let l =
-    c .before .before .before .before .before .before .before .before .before .before .before .before .before .before .before .before .before .before .before .before .before .before .before .loop in
+    let s = c .before .before .before .before .before .before .before .before .before .before .before .before .before .before .before .before .before .before .before .before .before .before .before in
+    let l = c .before .before .before .before .before .before .before .before .before .before .before .before .before .before .loop in
     let m = s .pre .1 .most in
-    let t : l .y < s .args .o .size =
-    c .before .before .before .before .before .before .before .before .before .before .before .before .before .before .before .before .before .before .before .before .before .if1 .taken in
+    let t : l .y < s .args .o .size = c .before .before .before .before .before .before .before .before .before .before .before .before .if1 .taken in
     omega arith
 
 loop-again : tie.Need-loop-again Inv-loop μ-loop
 loop-again c =
-    let s =
-    c .before .before .before .before .before .before .before .before .before .before .before .before .before .before .before .before .before .before .before .before .before .before .before .before .before .before .before .before .before .before .before .before .before .before .before in
-    let l =
-    c .before .before .before .before .before .before .before .before .before .before .before .before .before .before .before .before .before .before .before .before .before .before .before .loop in
+    let s = c .before .before .before .before .before .before .before .before .before .before .before .before .before .before .before .before .before .before .before .before .before .before .before in
+    let l = c .before .before .before .before .before .before .before .before .before .before .before .before .before .before .loop in
     let m = s .pre .1 .most in
-    let t : l .y < s .args .o .size =
-    c .before .before .before .before .before .before .before .before .before .before .before .before .before .before .before .before .before .before .before .before .before .if1 .taken in
+    let t : l .y < s .args .o .size = c .before .before .before .before .before .before .before .before .before .before .before .before .if1 .taken in
     let e : s .args .z * s .args .o .size + l .y + 1 ≡ s .args .z * s .args .o .size + (l .y + 1) = omega arith in (
       omega arith,
       done-at e (c .before .before .lay-line .ensures),
-      c .before .before .before .before .before .before .before .before .before .before .before .before .before .before .before .mark-line .ensures .0,
-      c .before .before .before .before .before .before .before .before .before .before .before .before .before .before .edges .given ∙ l .inv .3,
-      c .before .before .before .before .before .before .before .before .before .before .before .before .a .given ∙ l .inv .4,
-      c .before .before .before .before .before .before .before .before .before .before .b .given ∙ l .inv .5,
-      c .before .before .before .before .before .before .before .before .c .given ∙ l .inv .6,
-      c .before .before .before .before .before .before .flags .given ∙ l .inv .7,
+      c .before .before .before .before .before .before .before .before .before .mark-line .ensures .0,
+      c .before .before .before .before .before .before .before .before .edges .given ∙ l .inv .3,
+      c .before .before .before .before .before .before .flags .given ∙ l .inv .4,
     )
 
 same-length : tie.Need-same-length Inv-loop μ-loop
@@ -101,22 +77,11 @@ same-length-2 : tie.Need-same-length-2 Inv-loop μ-loop
 same-length-2 c = c .before .before .loop .inv .4
 
 same-length-3 : tie.Need-same-length-3 Inv-loop μ-loop
-same-length-3 c = c .before .before .loop .inv .5
-
-same-length-4 : tie.Need-same-length-4 Inv-loop μ-loop
-same-length-4 c = c .before .before .loop .inv .6
-
-same-length-5 : tie.Need-same-length-5 Inv-loop μ-loop
-same-length-5 c = c .before .before .loop .inv .7
-
-same-length-6 : tie.Need-same-length-6 Inv-loop μ-loop
-same-length-6 c =
-    c .before .before .loop .inv .1 .all
-    ∙ sym (c .before .before .before .before .before .before .before .before .before .before .before .before .before .before .pre .6 .all)
+same-length-3 c = c .before .before .loop .inv .1 .all ∙ sym (c .before .before .before .before .before .before .before .before .before .before .before .pre .6 .all)
 
 returns : tie.Need-returns Inv-loop μ-loop
 returns c =
-    let s = c .before .before .before .before .before .before .before .before .before .before .before .before .before .before in
+    let s = c .before .before .before .before .before .before .before .before .before .before .before in
     let l = c .before .before .loop in
     let h : l .y ≤ s .args .o .size = l .inv .0 in
     let e : l .y ≡ s .args .o .size = (let t = c .if1 .left in omega arith) in
@@ -137,7 +102,4 @@ lay-levels-spec =
     same-length
     same-length-2
     same-length-3
-    same-length-4
-    same-length-5
-    same-length-6
     returns)

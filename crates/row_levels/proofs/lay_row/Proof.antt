@@ -27,51 +27,49 @@ sub-below-level c = search needs
 
 below-level-requires-2 : tie.Need-below-level-requires-2
 below-level-requires-2 c κs =
-    let s = c .before .before .before .before .before .before .before .before .before .before .before .before .before .before .before in
+    let s = c .before .before .before .before .before .before .before .before .before .before .before .before in
     let m = c .before .before .before .row-top .ensures .most in
     (subst (λ (u : ℤ). mag u ≤ 1000000) (sym (back (s .args .o .oy) (s .pre .1 .y))) (s .pre .1 .y), omega arith)
 
 begin-row-requires : tie.Need-begin-row-requires
 begin-row-requires c κs =
-    let s =
-    c .before .before .before .before .before .before .before .before .before .before .before .before .before .before .before .before .before .before .before in
+    let s = c .before .before .before .before .before .before .before .before .before .before .before .before .before .before .before in
     let n = s .pre .5 in
-    (s .pre .1, subst (λ (u : ℕ). u ≤ s .args .o .size) (sym (c .before .before .before .below-level2 .ensures)) (below-most (s .args .o .size) _ _), s .pre .2, s .pre .4, n .wholes, n .parts, n .rows, s .pre .6)
+    let most = subst (λ (u : ℕ). u ≤ s .args .o .size) (sym (c .before .before .below-level2 .ensures)) (below-most (s .args .o .size) _ _) in
+    (s .pre .1, most, s .pre .2, s .pre .4, n .wholes, n .parts, n .rows, s .pre .6)
 
 lay-levels-requires : tie.Need-lay-levels-requires
 lay-levels-requires c κs =
-    let s =
-    c .before .before .before .before .before .before .before .before .before .before .before .before .before .before .before .before .before .before .before .before .before .before .before .before .before .before .before .before .before .before .before .before .before in
+    let c8 = c .before .before .before .before .before .before .before .before in
+    let c11 = c8 .before .before .before in
+    let c13 = c11 .before .before in
+    let c15 = c13 .before .before in
+    let s = c15 .before .before .before .before .before .before .before .before .before in
     let o = s .args .o in
     let n = s .pre .5 in
     let oy = back (o .oy) (s .pre .1 .y) in
-    let b = c .before .before .before .before .before .before .before .before .before .before .before .before .before .begin-row .ensures in
-    let lo =
-    c .before .before .before .before .before .before .before .before .before .before .before .before .before .before .before .before .before .before .before .below-level .result in
-    let hi =
-    c .before .before .before .before .before .before .before .before .before .before .before .before .before .before .before .before .before .below-level2 .result in
-    let top =
-    c .before .before .before .before .before .before .before .before .before .before .before .before .before .before .before .before .before .before .before .before .before .row-top .result in
-    let high : hi ≡ belowLevel (o .size) (o .oy) (top - 1) =
-    c .before .before .before .before .before .before .before .before .before .before .before .before .before .before .before .before .before .below-level2 .ensures
-    ∙ ap (λ (u : ℤ). belowLevel (o .size) u (top - 1)) oy in
+    let d = c8 .begin-row .ensures in
+    let lo = c13 .below-level .result in
+    let hi = c11 .below-level2 .result in
+    let top = c15 .row-top .result in
+    let high : hi ≡ belowLevel (o .size) (o .oy) (top - 1) = c11 .below-level2 .ensures ∙ ap (λ (u : ℤ). belowLevel (o .size) u (top - 1)) oy in
     let most : hi ≤ o .size = subst (λ (u : ℕ). u ≤ o .size) (sym high) (below-most (o .size) (o .oy) (top - 1)) in (
       s .pre .0,
       s .pre .1,
       s .pre .2,
       s .pre .3,
       record {
-        low = c .before .before .before .before .before .before .before .before .before .before .before .before .before .before .before .before .before .before .before .below-level .ensures ∙ ap (λ (u : ℤ). belowLevel (o .size) u 1) oy;
+        low = c13 .below-level .ensures ∙ ap (λ (u : ℤ). belowLevel (o .size) u 1) oy;
         top = top;
         high = high;
-        highest = c .before .before .before .before .before .before .before .before .before .before .before .before .before .before .before .before .before .before .before .before .before .row-top .ensures;
+        highest = c15 .row-top .ensures;
         least = λ (x : ℕ) h. height-range (s .args .w) o (s .pre .0) (s .args .heights .now) (s .args .biomes .now) (s .pre .3) x (s .args .z) h (s .pre .2) .0;
         columns = s .pre .3 .long;
         noted = s .pre .4;
-        cut = b .cut;
-        layers = λ h. (omega arith, b .layers h);
+        cut = d .cut;
+        layers = λ h. (omega arith, d .layers h);
       },
-      record { wholes = n .wholes; parts = n .parts; rows = c .before .before .before .before .before .before .before .before .before .before .before .before .edges .given ∙ n .rows; marks = n .marks },
+      record { wholes = n .wholes; parts = n .parts; rows = c .before .before .before .before .before .before .before .edges .given ∙ n .rows; marks = n .marks },
       s .pre .7,
     )
 
@@ -86,15 +84,6 @@ same-length-3 c = search needs
 
 same-length-4 : tie.Need-same-length-4
 same-length-4 c = search needs
-
-same-length-5 : tie.Need-same-length-5
-same-length-5 c = search needs
-
-same-length-6 : tie.Need-same-length-6
-same-length-6 c = search needs
-
-same-length-7 : tie.Need-same-length-7
-same-length-7 c = search needs
 
 returns : tie.Need-returns
 returns c = search needs
@@ -114,7 +103,4 @@ lay-row-spec =
     same-length-2
     same-length-3
     same-length-4
-    same-length-5
-    same-length-6
-    same-length-7
     returns)
