@@ -15,10 +15,12 @@ unfoldable pub largeCavern : Float → Float → Float → Float → Bool
 largeCavern x y z h =
     lt (nearest 7 10 -f (nat 1 -f clamp₃₂ (y /f h) (nat 0) (nat 1)) *f nearest 15 100) (fbm3d₃₂ (x *f nearest 15 1000) (y *f nearest 25 1000) (z *f nearest 15 1000) 2)
 
--- what of a ravine is the same for a whole column
+-- what of a ravine is the same for a whole column; n is the larger noise there
+unfoldable pub ravineWith : Float → Float → Float → Bool
+ravineWith n x z = lt (abs₃₂ (n -f nearest 1 2)) (nearest 15 1000 +f noise2d₃₂ (x *f nearest 5 100) (z *f nearest 5 100) *f nearest 8 1000)
+
 unfoldable pub ravineHere : Float → Float → Bool
-ravineHere x z =
-    lt (abs₃₂ (fbm2d₃₂ (x *f nearest 1 100) (z *f nearest 1 100) 3 -f nearest 1 2)) (nearest 15 1000 +f noise2d₃₂ (x *f nearest 5 100) (z *f nearest 5 100) *f nearest 8 1000)
+ravineHere x z = ravineWith (fbm2d₃₂ (x *f nearest 1 100) (z *f nearest 1 100) 3) x z
 
 unfoldable pub ravineCut : Float → Float → Float → Float → Bool
 ravineCut x y z h = ravineHere x z && lt (h -f nat 20) y && lt y (h -f nat 1)

@@ -1,6 +1,6 @@
 // Where the ground is hollow: the caves of terrain.rs. They do not take the seed.
 ghost use mathlib.Core.Path.{_≡_};
-ghost use Rattle.caves.specs.Caves.{spaghettiCave, largeCavern, ravineHere, ravineCut, carved};
+ghost use Rattle.caves.specs.Caves.{spaghettiCave, largeCavern, ravineWith, ravineHere, ravineCut, carved};
 use noise::fbm2d;
 use noise::fbm3d;
 use noise::noise2d;
@@ -26,13 +26,18 @@ fn cavern(x: f32, y: f32, z: f32, height: f32) -> bool
     n > 0.7 - depth_factor * 0.15
 }
 
-// Whether a column lies on a narrow cut.
-pub fn ravine_here(x: f32, z: f32) -> bool
-    ensures { λ r. ⌜ r ≡ ravineHere x z ⌝ }
+// Whether a column lies on a narrow cut; n is the larger noise there.
+pub fn ravine_with(n: f32, x: f32, z: f32) -> bool
+    ensures { λ r. ⌜ r ≡ ravineWith n x z ⌝ }
 {
-    let n = fbm2d(x * 0.01, z * 0.01, 3);
     let detail = noise2d(x * 0.05, z * 0.05);
     abs(n - 0.5) < 0.015 + detail * 0.008
+}
+
+fn ravine_here(x: f32, z: f32) -> bool
+    ensures { λ r. ⌜ r ≡ ravineHere x z ⌝ }
+{
+    ravine_with(fbm2d(x * 0.01, z * 0.01, 3), x, z)
 }
 
 // Narrow cuts near the surface. The noise is dear, so the level is looked at first.

@@ -17,16 +17,12 @@ use Rattle.noise_tables.specs.Row.{at, Row}
 use Rattle.noise_tables.specs.Places.{Tells, Noted}
 use Rattle.noise_rows.specs.Sums.{freqAt, Lies, Summed}
 use Rattle.cave_coords.specs.Coords.{scaledBy, xOf, coordOf}
-use Rattle.terrain.specs.Caves.{ravineHere}
+use Rattle.terrain.specs.Caves.{ravineWith, ravineHere}
 use Rattle.terrain.specs.declared.world.Frame.{Frame}
 
--- whether a column with this larger noise lies on a ravine
-unfoldable pub cutOf : Float → Float → Float → Bool
-cutOf n x z = lt (abs₃₂ (n -f nearest 1 2)) (nearest 15 1000 +f noise2d₃₂ (x *f nearest 5 100) (z *f nearest 5 100) *f nearest 8 1000)
-
--- of place i of a row at z
+-- whether place i of a row at z lies on a ravine, by the larger noise that the row holds
 unfoldable pub cutAt : Frame → Float → List Float → ℕ → Bool
-cutAt f z vals i = cutOf (at vals i) (real (f .ox +ℤ pos i)) z
+cutAt f z vals i = ravineWith (at vals i) (real (f .ox +ℤ pos i)) z
 
 -- the first n flags are g 0, g 1, ..
 pub record CutTo (n : ℕ) (g : ℕ → Bool) (cuts : List Bool) : Type 0 where
@@ -78,11 +74,11 @@ row-lies f floors eases n = record {
 pub cuts-are : (f : Frame) (z : ℕ) (floors : List ℕ) (eases vals : List Float) (cuts : List Bool) (v : Float) → v ≡ real (f .oz +ℤ pos z)
     → Noted (f .size) 27 (coordOf f) floors eases → Summed (v *f nearest 1 100) 3 512 (f .size) floors eases vals
     → CutTo (f .size) (cutAt f v vals) cuts → Cuts f z cuts
-unfolding cutAt cutOf ravineHere
+unfolding cutAt ravineHere
 cuts-are f z floors eases vals cuts v e n s c = record {
   long = c .long;
   each = λ (x : ℕ) h.
       c .each x h
-      ∙ ap₂ (λ (u w : Float). lt (abs₃₂ (u -f nearest 1 2)) (nearest 15 1000 +f noise2d₃₂ (real (f .ox +ℤ pos x) *f nearest 5 100) (w *f nearest 5 100) *f nearest 8 1000))
+      ∙ ap₂ (λ (u w : Float). ravineWith u (real (f .ox +ℤ pos x)) w)
       (s .is (larger f) (row-lies f floors eases n) .holds x h ∙ ap (λ (w : Float). fbm2d₃₂ (larger f x) (w *f nearest 1 100) 3) e) e;
 }

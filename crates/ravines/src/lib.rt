@@ -1,25 +1,16 @@
-// Which columns of a chunk's row lie on a ravine: `ravine_here` of `terrain`, with the larger noise worked out by rows.
+// Which columns of a chunk's row lie on a ravine: `ravine_here` of `caves`, with the larger noise worked out by rows.
 ghost use mathlib.Core.Path.{_≡_};
 ghost use Prim.Native.Nat.{_≤_, _<_};
 ghost use lib.ListN.{length};
 ghost use Rattle.noise_tables.specs.Places.{Noted};
 ghost use Rattle.cave_coords.specs.Coords.{coordOf};
 ghost use Rattle.terrain.specs.World.{Near};
-ghost use Rattle.ravines.specs.Cuts.{cutOf, cutAt, CutTo, Cuts};
-use noise::noise2d;
+ghost use Rattle.ravines.specs.Cuts.{cutAt, CutTo, Cuts};
 use noise_rows::fbm_row;
+use terrain::cave::ravine_with;
 use terrain::world::Frame;
 use terrain::world::along;
-use words::num::abs;
 use words::num::of_i32;
-
-// n is the larger noise at x and z.
-fn cut_at(n: f32, x: f32, z: f32) -> bool
-    ensures { λ r. ⌜ r ≡ cutOf n x z ⌝ }
-{
-    let detail = noise2d(x * 0.05, z * 0.05);
-    abs(n - 0.5) < 0.015 + detail * 0.008
-}
 
 fn cut_row(f: Frame, z: f32, vals: &[f32], cuts: &mut [bool])
     requires { ⌜ Near f × (f .size ≤ length (now vals)) × (f .size ≤ length (now cuts)) ⌝ }
@@ -29,7 +20,7 @@ fn cut_row(f: Frame, z: f32, vals: &[f32], cuts: &mut [bool])
     let mut i = 0;
     while i < n {
         let wx = along(f.ox, i);
-        cuts[i] = cut_at(vals[i], of_i32(wx), z);
+        cuts[i] = ravine_with(vals[i], of_i32(wx), z);
         i += 1;
     }
 }

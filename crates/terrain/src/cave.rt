@@ -1,3 +1,3 @@
 // Where the ground is hollow.
 pub use caves::cave;
-pub use caves::ravine_here;
+pub use caves::ravine_with;

@@ -9,15 +9,12 @@ use Rattle.caves.proofs.ravine_here.Tie as tie
 fbm2d-requires : tie.Need-fbm2d-requires
 fbm2d-requires c κs = search needs
 
-noise2d-requires : tie.Need-noise2d-requires
-noise2d-requires c κs = search needs
-
-abs-requires : tie.Need-abs-requires
-abs-requires c κs = search needs
+ravine-with-requires : tie.Need-ravine-with-requires
+ravine-with-requires c κs = search needs
 
 returns : tie.Need-returns
 unfolding ravineHere nearest ofBits neg
-returns c = simp (c .abs .ensures, c .before .noise2d .ensures, c .before .before .fbm2d .ensures)
+returns c = simp (c .ravine-with .ensures, c .before .fbm2d .ensures)
 
 pub ravine-here-spec : {M : Type 1} → statement M
-ravine-here-spec = tie.close (tie.spec fbm2d-requires noise2d-requires abs-requires returns)
+ravine-here-spec = tie.close (tie.spec fbm2d-requires ravine-with-requires returns)

@@ -10,7 +10,8 @@ use mir.Syntax.{w32}
 use Rattle.words.specs.Laws.{read}
 use Rattle.noise_tables.specs.Row.{at}
 use Rattle.terrain.proofs.Signed.{back}
-use Rattle.ravines.specs.Cuts.{cutOf, cutAt, CutTo, cut-none, cut-more}
+use Rattle.terrain.specs.Caves.{ravineWith}
+use Rattle.ravines.specs.Cuts.{cutAt, CutTo, cut-none, cut-more}
 use Rattle.ravines.proofs.cut_row.Statement.{statement}
 use Rattle.ravines.proofs.cut_row.Tie as tie
 
@@ -30,15 +31,15 @@ along-requires c κs =
     let t : c .before .before .loop .i < s .args .f .size = c .before .loop-test .taken in
     (subst (λ (u : ℤ). mag u ≤ 1000000) (sym (back (s .args .f .ox) (s .pre .0 .x))) (s .pre .0 .x), omega arith)
 
-mul-cut-at : tie.Need-mul-cut-at Inv-loop μ-loop
-mul-cut-at c =
+mul-ravine-with : tie.Need-mul-ravine-with Inv-loop μ-loop
+mul-ravine-with c =
     let s = c .before .before .before .before .before .before in
     let m = s .pre .0 .most in
     let t : c .before .before .before .loop .i < s .args .f .size = c .before .before .loop-test .taken in
     omega arith
 
-shared-slice-read-cut-at : tie.Need-shared-slice-read-cut-at Inv-loop μ-loop
-shared-slice-read-cut-at c =
+shared-slice-read-ravine-with : tie.Need-shared-slice-read-ravine-with Inv-loop μ-loop
+shared-slice-read-ravine-with c =
     let s = c .before .before .before .before .before .before .before in
     let v = s .pre .1 in
     let t : c .before .before .before .before .loop .i < s .args .f .size = c .before .before .before .loop-test .taken in
@@ -47,8 +48,8 @@ shared-slice-read-cut-at c =
 of-i32-requires : tie.Need-of-i32-requires Inv-loop μ-loop
 of-i32-requires c κs = tt
 
-cut-at-requires : tie.Need-cut-at-requires Inv-loop μ-loop
-cut-at-requires c κs = tt
+ravine-with-requires : tie.Need-ravine-with-requires Inv-loop μ-loop
+ravine-with-requires c κs = tt
 
 slice-write-cuts : tie.Need-slice-write-cuts Inv-loop μ-loop
 slice-write-cuts c =
@@ -92,7 +93,7 @@ loop-again c =
     let w =
     read w32 (c .before .before .before .along .ok) (c .before .before .before .along .ensures ∙ ap (λ (u : ℤ). u +ℤ pos (l .i)) (back (s .args .f .ox) (s .pre .0 .x))) in
     let r =
-    c .cut-at .ensures ∙ ap (λ (u : Float). cutOf (at (s .args .vals .now) (l .i)) u (s .args .z)) (c .before .of-i32 .ensures ∙ ap (ofInt binary32) w) in
+    c .ravine-with .ensures ∙ ap (λ (u : Float). ravineWith (at (s .args .vals .now) (l .i)) u (s .args .z)) (c .before .of-i32 .ensures ∙ ap (ofInt binary32) w) in
     (omega arith, length-set (l .cuts) (l .i) _ ∙ e, cut-more (l .i) (cutAt (s .args .f) (s .args .z) (s .args .vals .now)) (l .cuts) _ (omega arith) r (l .inv .2))
 
 same-length : tie.Need-same-length Inv-loop μ-loop
@@ -114,10 +115,10 @@ cut-row-spec =
     μ-loop
     loop-holds
     along-requires
-    mul-cut-at
-    shared-slice-read-cut-at
+    mul-ravine-with
+    shared-slice-read-ravine-with
     of-i32-requires
-    cut-at-requires
+    ravine-with-requires
     slice-write-cuts
     add-i
     loop-less

@@ -1,0 +1,20 @@
+-- `caves::ravine_with` meets its contract. Assumes nothing.
+use borrow.Author.Needs.{needs}
+use lib.Ieee.{ofBits}
+use Rattle.words.specs.Num.{nearest}
+use Rattle.caves.specs.Caves.{ravineWith}
+use Rattle.caves.proofs.ravine_with.Statement.{statement}
+use Rattle.caves.proofs.ravine_with.Tie as tie
+
+noise2d-requires : tie.Need-noise2d-requires
+noise2d-requires c κs = search needs
+
+abs-requires : tie.Need-abs-requires
+abs-requires c κs = search needs
+
+returns : tie.Need-returns
+unfolding ravineWith nearest ofBits
+returns c = simp (c .abs .ensures, c .before .noise2d .ensures)
+
+pub ravine-with-spec : {M : Type 1} → statement M
+ravine-with-spec = tie.close (tie.spec noise2d-requires abs-requires returns)
