@@ -1,8 +1,8 @@
 -- A chunk's coordinates, as the octaves of the caves' noise take them. Assumes nothing.
-use mathlib.Core.Bool.{Bool, true, false, cond}
+use mathlib.Core.Bool.{cond}
 use Prim.Native.Nat.{ℕ, _-_}
 use lib.Dec.{eqb, ltb}
-use lib.IntN.{ℤ, pos, _+ℤ_}
+use lib.IntN.{pos, _+ℤ_}
 use lib.Ieee.{Float}
 use Rattle.words.specs.Num.{nearest}
 use Rattle.column.specs.Floats.{_+f_, _-f_, _*f_, nat, real}

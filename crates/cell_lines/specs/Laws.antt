@@ -2,9 +2,9 @@
 use mathlib.Core.Path.{_≡_, refl, sym, ap, ap₂, _∙_, subst}
 use mathlib.Core.List.{List}
 use mathlib.Core.Bool.{Bool, true, false, cond}
-use Prim.Native.Nat.{ℕ, _+_, _-_, _*_, _/_, _%_, _≤_, _<_}
+use Prim.Native.Nat.{ℕ, _+_, _*_, _/_, _%_, _≤_, _<_}
 use native.Mathlib.Omega.{arith}
-use native.Mathlib.Nat.{add-mul, mul-le-mul-right}
+use native.Mathlib.Nat.{add-mul}
 use lib.Arith.{digits-lt, digits-div, digits-mod}
 use lib.Dec.{ltb}
 use lib.IntN.{ℤ, pos, _+ℤ_}
@@ -20,7 +20,7 @@ use Rattle.terrain.specs.Laws.{height-least, height-most, cell-told}
 use Rattle.terrain.specs.declared.world.World.{World}
 use Rattle.terrain.specs.declared.world.Frame.{Frame}
 use Rattle.terrain.specs.declared.world.Top.{Top}
-use Rattle.cell_lines.specs.Lines.{belowLevel, Highest, Flagged, DoneTo}
+use Rattle.cell_lines.specs.Lines.{belowLevel, Flagged, DoneTo}
 
 -- r lines and n cells of the next are laid
 pub record Laying (w : World) (o : Frame) (r n : ℕ) (c : List ℕ) : Type 0 where

@@ -9,12 +9,11 @@ use lib.Seq.{set-getD}
 use borrow.Author.Tests.{lt-ltb, le-leb}
 use Rattle.config.specs.Refusals.{refusal-pass, refusal-none}
 use Rattle.grid.specs.Cube.{cellIndex, seeAt}
-use Rattle.grid.specs.Count.{nonAirCount}
 use Rattle.chunk.specs.Replies.{accepted}
 use Rattle.chunk.specs.Tests.{Inside, chunkRefusal, countOk, countRefusal}
-use Rattle.chunk.specs.Calls.{Outcome, outcome, edited}
+use Rattle.chunk.specs.Calls.{outcome, edited}
 use Rattle.chunk.specs.Moves.{put-inside, see-inside, edit-done}
-use Rattle.edits.specs.Edits.{Group, group, batchGroups, insideGroups, putGroup, batchCells}
+use Rattle.edits.specs.Edits.{group, batchGroups, insideGroups, putGroup, batchCells}
 use Rattle.chunk_batch.specs.Calls.{groupsDo, batchDoes}
 
 -- a count that no edit moves is right where it fits the chunk

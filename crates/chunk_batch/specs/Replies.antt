@@ -1,5 +1,5 @@
 -- What the answer of a batch says. Assumes nothing.
-use mathlib.Core.List.{List, [], _∷_}
+use mathlib.Core.List.{[], _∷_}
 use Rattle.chunk.specs.Replies.{Reply, accepted, refused}
 use Rattle.chunk_batch.specs.declared.BatchReply.{BatchReply}
 use Rattle.chunk_batch.specs.declared.BatchReply.the-variants as batch-reply

@@ -1,12 +1,10 @@
 -- The height and the biome of a column, every f32 operation rounded once, in the order of `terrain.rs`. Assumes nothing.
-use Prim.Native.Nat.{ℕ}
 use mathlib.Core.Bool.{Bool, _&&_, cond}
 use lib.IntN.{ℤ, pos}
-use lib.Signed.{ltZ}
-use lib.Ieee.{Float, neg, lt, le}
+use lib.Ieee.{Float, neg, le}
 use Rattle.words.specs.Num.{nearest, max₃₂, toI32}
 unfoldable pub use Rattle.shapes.specs.Shapes.{offsetFbm₃₂, scaledFbm₃₂, smoothRamp₃₂, ridge₃₂, ridgesOf, ridges₃₂, plateau₃₂, continent₃₂, hillBoost₃₂, coldBoost₃₂, clampOf}
-use Rattle.column.specs.Floats.{_+f_, _-f_, _*f_, _/f_, nat, real, square}
+use Rattle.column.specs.Floats.{_+f_, _-f_, _*f_, _/f_, nat, real}
 use Rattle.column.specs.declared.Column.{Column}
 use Rattle.column.specs.declared.Relief.{Relief}
 use Rattle.column.specs.declared.Surface.{Surface}

@@ -5,7 +5,7 @@ use Prim.Native.Nat.{ℕ, zero, suc, _+_, _*_, _≤_, _<_}
 use native.Mathlib.Omega.{arith}
 use lib.Ieee.{Float, mul, neg}
 use Rattle.words.specs.Num.{nearest}
-use Rattle.noise_tables.specs.Row.{at, Row}
+use Rattle.noise_tables.specs.Row.{Row}
 use Rattle.noise_tables.specs.Places.{Tells}
 use Rattle.noise_rows.specs.Sums.{freqAt, Lies, Summed}
 use Rattle.column.specs.Floats.{_+f_, _*f_, nat}

@@ -1,5 +1,4 @@
 -- A row of columns at one z: what `get_biome` asks of the noise, place by place. Assumes nothing.
-use mathlib.Core.Path.{_≡_}
 use Prim.Native.Nat.{ℕ}
 use mathlib.Core.List.{List}
 use lib.Ieee.{Float, neg}

@@ -4,7 +4,7 @@ use mathlib.Core.List.{List, [], _∷_}
 use Prim.Native.Nat.{ℕ}
 use native.Mathlib.Omega.{arith}
 use lib.IntN.{ℤ, pos, negsuc}
-use lib.Ieee.{Float, mul, div, lt, toSigned}
+use lib.Ieee.{mul, div, lt, toSigned}
 use Rattle.words.specs.Num.{nearest, toI32}
 use Rattle.column.specs.Column.{biomeAndHeight}
 use Rattle.column.specs.Floats.{nat}

@@ -1,10 +1,10 @@
 -- The cells of a chunk as a list. Assumes nothing.
-use mathlib.Core.Path.{_≡_, refl, sym, ap, _∙_}
-use Prim.Native.Nat.{ℕ, zero, suc, _+_, _*_, _/_, _%_, _≤_, _<_}
-use mathlib.Core.Bool.{Bool, true, false, cond}
+use mathlib.Core.Path.{_≡_}
+use Prim.Native.Nat.{ℕ, zero, suc, _+_, _*_, _/_, _%_, _≤_}
+use mathlib.Core.Bool.{Bool, false, cond}
 use mathlib.Core.List.{List, [], _∷_, _++_}
 use lib.ListN.{length, set, getD}
-use lib.Dec.{ltb, eqb}
+use lib.Dec.{ltb}
 
 pub record Cube (size : ℕ) (c : List ℕ) : Type 0 where
   pub most : size ≤ 64

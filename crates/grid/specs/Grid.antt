@@ -1,17 +1,17 @@
 -- The laws of a chunk's indices, and of lists that are filled from the front. Assumes nothing.
-use mathlib.Core.Path.{_≡_, refl, sym, ap, ap₂, _∙_, subst}
-use Prim.Native.Nat.{ℕ, zero, suc, _+_, _*_, _/_, _%_, _-_, _≤_, _<_}
+use mathlib.Core.Path.{_≡_, refl, sym, ap, _∙_, subst}
+use Prim.Native.Nat.{ℕ, zero, suc, _+_, _*_, _/_, _%_, _≤_, _<_}
 use native.Mathlib.Omega.{arith}
 use native.Mathlib.Nat.{add-mul, mul-le-mul, div-lt-iff-lt-mul, mod-lt}
 use native.Mathlib.Numerals.{add-one}
 use mathlib.Core.Bool.{Bool, true, false, cond}
 use mathlib.Core.List.{List, [], _∷_, _++_, append-assoc, append-nil}
 use lib.ListN.{length, set, getD, drop, length-append, length-drop, length-set, List·getD-append, drop-of-length-le}
-use lib.Seq.{drop-cons, set-at, getD-at, getD-append-add}
+use lib.Seq.{drop-cons, set-at, getD-at}
 use lib.Arith.{digits-lt, digits-div, digits-mod}
-use lib.Dec.{ltb, eqb}
+use lib.Dec.{ltb}
 use borrow.Author.Tests.{lt-ltb, le-ltb}
-use Rattle.grid.specs.Cube.{Cube, cellIndex, inside, putAt, seeAt, tab, steps, colOf}
+use Rattle.grid.specs.Cube.{cellIndex, inside, putAt, tab, steps, colOf}
 
 -- an index by its digits to the base size
 pub digits : (s x y z : ℕ) → cellIndex s x y z ≡ (z * s + y) * s + x

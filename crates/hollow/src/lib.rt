@@ -4,7 +4,6 @@
 ghost use mathlib.Core.Path.{_≡_};
 ghost use Prim.Native.Nat.{_+_, _*_, _≤_, _<_};
 ghost use lib.ListN.{length};
-ghost use Rattle.column.specs.Floats.{real};
 ghost use Rattle.noise_tables.specs.Row.{Row};
 ghost use Rattle.noise_tables.specs.Places.{Noted};
 ghost use Rattle.noise_rows.specs.Sums.{zeroAt};

@@ -1,12 +1,10 @@
 -- 01, Beside the chain: the listing, as what `report` does. Its proof works out the journal, and takes the ground from the
 -- range of heights. Assumes nothing.
-use mathlib.Core.Path.{_≡_, refl, sym, _∙_, ap}
-use mathlib.Core.Bool.{true, false}
-use mathlib.Core.List.{List, [], _∷_, _++_}
-use mathlib.Core.Option.{some}
-use Prim.Native.Nat.{ℕ, suc, _≤_, _<_}
+use mathlib.Core.Path.{_≡_, refl, _∙_, ap}
+use mathlib.Core.List.{List, [], _∷_}
+use Prim.Native.Nat.{ℕ, suc, _≤_}
 use native.Mathlib.Omega.{arith}
-use lib.IntN.{pos, natAbs}
+use lib.IntN.{pos}
 use lib.ListN.{length, take, drop}
 use lib.Seq.{length-take-le}
 use Rattle.text.specs.Decimal.{decimal, decimalF}
@@ -16,8 +14,8 @@ use Rattle.config.specs.Limits.{header, limitRefusal, sizeOk, seedOk, seaOk, he
 use Rattle.grid.specs.Cube.{inside, putAt, seeAt}
 use Rattle.grid.specs.Count.{nonAirCount}
 use Rattle.format.specs.Fields.{fields, joinTabs, wholeOf, integerOf, integersOf, taggedOf}
-use Rattle.format.specs.Line.{Edit, set, cellOk, setOf, columnOk, columnOf, lineOf, headerOf}
-use Rattle.format.specs.Journal.{linesFrom, lines, committed, after, active, Read, read, follow}
+use Rattle.format.specs.Line.{set, cellOk, setOf, columnOk, columnOf, lineOf, headerOf}
+use Rattle.format.specs.Journal.{linesFrom, lines, committed, after, active, read, follow}
 use Rattle.ground.specs.Ground.{ground}
 use Rattle.journal.specs.Opens.{openingOf}
 use Rattle.journal.specs.declared.Opening.the-variants.{Opens}
@@ -30,7 +28,7 @@ use Rattle.print_lines.specs.Text.{fieldsLine, fieldsOf, each, okText, rowText,
 use Rattle.report.specs.Text.{answerText, reportText}
 use Rattle.report.specs.Report.{lentBy, lentCells, reportDoes}
 use Rattle.report.specs.Laws.{printed, report-prints}
-use Rattle.listing.specs.Sky.{listingConfig, listingPlace, eightWaters, listing-ground}
+use Rattle.listing.specs.Sky.{listingConfig, listingPlace, listing-ground}
 
 -- the journal, with | for tab and an LF behind each but the last: `G|0|4096|256|2|0|128|0`; `S|0|0|0|0`; `C|1|0|2|8`; `U`; `S|1`
 abbrev pub listingJournal : List ℕ

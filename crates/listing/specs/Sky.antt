@@ -1,29 +1,24 @@
 -- The ground of a chunk of size 2 that lies above the world's top and below the sea is water. No noise is worked out: the
 -- range of heights decides. Assumes nothing.
-use mathlib.Core.Path.{_≡_, refl, sym, _∙_, ap}
-use mathlib.Core.Bool.{Bool, true, false, cond, _&&_}
-use mathlib.Core.List.{List, [], _∷_, _++_}
-use Prim.Native.Nat.{ℕ, _≤_, _<_}
+use mathlib.Core.Path.{_≡_, refl, _∙_}
+use mathlib.Core.Bool.{true}
+use mathlib.Core.List.{List, [], _∷_}
+use Prim.Native.Nat.{ℕ, _≤_}
 use native.Mathlib.Omega.{arith}
-use lib.IntN.{ℤ, pos, _+ℤ_}
-use lib.Signed.{leZ, ltZ}
+use lib.IntN.{ℤ, pos}
+use lib.Signed.{ltZ}
 use lib.Dec.{leb}
 use borrow.Author.Tests.{le-leb}
 use Rattle.grid.specs.Cube.{tab, steps}
-use Rattle.terrain.specs.World.{Tall, heightAt, biomeAt, biomeNumber, biomeNumbered, topAt, columnCell, cellWith, cellUnder, baseCell}
+use Rattle.terrain.specs.World.{Tall, heightAt, topAt, columnCell, cellWith, cellUnder, baseCell}
 use Rattle.terrain.specs.Base.{baseNumbered, baseCells}
 use Rattle.terrain.specs.Laws.{height-most}
 use Rattle.terrain.specs.declared.world.World.{World}
-use Rattle.terrain.specs.declared.world.Frame.{Frame}
 use Rattle.terrain.specs.declared.world.Top.{Top}
 use Rattle.features.specs.Features.{insetIn, boulderColumn, boulderStep, bouldersOf, treeColumn, treeStep, treesOf, topOf}
 use Rattle.config.specs.declared.TerrainConfig.{TerrainConfig}
 use Rattle.config.specs.declared.ChunkPos.{ChunkPos}
-use Rattle.config.specs.Refusals.{refusal}
-use Rattle.config.specs.Limits.{limitRefusal, configHeader, sizeOk, seedOk, seaOk, heightOk, placeOk, placesOk, fine}
 use Rattle.ground.specs.Ground.{groundIn, worldOf, frameOf, frameWith, ground}
-use Rattle.ground.specs.Facts.{tall-of}
-use Rattle.ground.specs.Laws.{ground-heights}
 
 -- 01, Cell: "At wy ≥ height: water (5) below sea level, even above the world's top"
 pub sky-water : (w : World) (t : Tall w) (wx wz : ℤ) (n : ℕ) → t .top ≤ n → ltZ (pos n) (w .«sea_level») ≡ true → baseCell w wx (pos n) wz ≡ 5

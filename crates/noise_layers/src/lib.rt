@@ -1,6 +1,5 @@
 // 3D noise along rows of columns, level by level. Each value is that of `noise3d`, by the same f32 operations on the same
 // operands; what does not change is kept: the hashes along x, and their interpolation along x from level to level.
-ghost use mathlib.Core.Path.{_≡_};
 ghost use Prim.Native.Nat.{_+_, _*_, _≤_, _<_};
 ghost use lib.ListN.{length};
 ghost use Rattle.noise_tables.specs.Row.{Row};

@@ -8,7 +8,7 @@ use native.Mathlib.Numerals.{add-one}
 use native.Mathlib.Nat.{mul-le-mul}
 use lib.ListN.{length, getD, length-append}
 use lib.Dec.{eqb}
-use borrow.Author.Tests.{eq-eqb, ne-eqb}
+use borrow.Author.Tests.{ne-eqb}
 use Rattle.text.specs.Pick.{pick, split}
 use Rattle.text.specs.Decimal.{decimal, decimal-length}
 use Rattle.grid.specs.Cube.{cellIndex, inside, seeAt}

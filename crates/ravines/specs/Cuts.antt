@@ -6,14 +6,14 @@ use Prim.Native.Nat.{ℕ, zero, suc, _+_, _*_, _≤_, _<_}
 use native.Mathlib.Omega.{arith}
 use lib.Dec.{ltb}
 use lib.IntN.{pos, _+ℤ_}
-use lib.Ieee.{Float, binary32, lt, mul}
+use lib.Ieee.{Float, binary32, mul}
 use lib.ListN.{length, getD, set, length-set}
 use lib.Seq.{getD-set-same, getD-set-other}
 use borrow.Author.Tests.{ltb-true, ltb-false}
-use Rattle.words.specs.Num.{nearest, abs₃₂}
-use Rattle.noise.specs.Noise.{noise2d₃₂, fbm2d₃₂, num}
-use Rattle.column.specs.Floats.{_+f_, _-f_, _*f_, nat, real}
-use Rattle.noise_tables.specs.Row.{at, Row}
+use Rattle.words.specs.Num.{nearest}
+use Rattle.noise.specs.Noise.{fbm2d₃₂}
+use Rattle.column.specs.Floats.{_*f_, real}
+use Rattle.noise_tables.specs.Row.{at}
 use Rattle.noise_tables.specs.Places.{Tells, Noted}
 use Rattle.noise_rows.specs.Sums.{freqAt, Lies, Summed}
 use Rattle.cave_coords.specs.Coords.{scaledBy, xOf, coordOf}

@@ -1,34 +1,32 @@
 -- "An accepted journal is what its writer would write": for every accepted journal, the calls that its lines say, given to the reference model with a
 -- borrowed length of at least the committed prefix, are refused nowhere and leave exactly those bytes and the active edits. Assumes nothing.
-use mathlib.Core.Path.{_≡_, refl, sym, _∙_, ap, ap₂, subst}
-use mathlib.Core.Bool.{Bool, true, false, _&&_}
+use mathlib.Core.Path.{_≡_, refl, sym, _∙_, ap, subst}
+use mathlib.Core.Bool.{_&&_}
 use mathlib.Core.List.{List, [], _∷_, _++_, append-assoc, append-nil, map}
 use mathlib.Core.Option.{Option, some, none}
-use Prim.Native.Nat.{ℕ, zero, suc, _+_, _-_, _≤_, _<_}
+use Prim.Native.Nat.{ℕ, suc, _+_, _-_, _≤_}
 use native.Mathlib.Omega.{arith}
 use lib.IntN.{natAbs}
 use lib.ListN.{length, take, length-append}
 use lib.Seq.{length-take-le}
 use lib.Dec.{ltb, leb, eqb}
 use borrow.Author.Tests.{lt-ltb, le-leb, ltb-false, eqb-true}
-use Rattle.text.specs.Pick.{pick, by-bool}
+use Rattle.text.specs.Pick.{by-bool}
 use Rattle.config.specs.declared.Header.{Header}
 use Rattle.config.specs.Limits.{configHeader, limitRefusal}
 use Rattle.grid.specs.Grid.{in-all}
-use Rattle.edits.specs.Edits.{Group, batchGroups, insideGroups}
-use Rattle.format.specs.Line.{Edit, set, column, batch, headerText, editText, undoText, ended, Line, edits, undoes, wrong, lineOf, headerOf}
+use Rattle.edits.specs.Edits.{Group}
+use Rattle.format.specs.Line.{Edit, set, column, batch, headerText, editText, undoText, ended, Line, edits, undoes, wrong, headerOf}
 use Rattle.format.specs.Journal.{lines, committed, Active, active, dropLast, after, Read, read, bad, follow}
 use Rattle.format.specs.Lines.{join, committed-le}
-use Rattle.format.specs.Groups.{AllGood}
 use Rattle.format.specs.RoundTrip.{EditOk}
 use Rattle.format.specs.Sizes.{undo-length}
 use Rattle.format.specs.Batches.{batchArgs, batch-args, batch-given}
-use Rattle.format.specs.Writer.{saidText, LineOk, AllLineOk, onSome, afterAll, journalText, Wrote, journal-wrote}
+use Rattle.format.specs.Writer.{saidText, LineOk, AllLineOk, onSome, afterAll, journalText, journal-wrote}
 use Rattle.calls.specs.Asked.{Asked, asks, clip, setAsks, columnAsks, batchLine, batchAsks}
 use Rattle.calls.specs.Record.{cube}
-use Rattle.calls.specs.Calls.{configOf, posOf, Resumed, openWith, openHeader, openLines, reopenDoes}
+use Rattle.calls.specs.Calls.{configOf, posOf, openWith, openHeader, openLines, reopenDoes}
 use Rattle.calls.specs.declared.Session.{Session}
-use Rattle.calls.specs.declared.Reopened.{Reopened}
 use Rattle.calls.specs.declared.Reopened.the-variants.{Opened, Refused as NotOpened}
 use Rattle.calls.specs.declared.Reply.{Reply}
 use Rattle.reopen.proofs.Numbers.{header-back}

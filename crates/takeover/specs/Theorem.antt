@@ -1,10 +1,9 @@
 -- THE TAKEOVER THEOREM: demand 3, as one statement over the whole list of calls as they were made, and every cut. Assumes nothing.
 use mathlib.Core.Path.{_≡_, refl, sym, _∙_, ap, subst}
-use mathlib.Core.List.{List, [], _∷_, _++_, append-assoc}
+use mathlib.Core.List.{List, _++_}
 use Prim.Native.Nat.{ℕ, _+_, _≤_, _<_}
 use native.Mathlib.Omega.{arith}
-use lib.ListN.{length, take, length-append}
-use lib.Seq.{take-take, length-take-le, take-append-le}
+use lib.ListN.{length, take}
 use denote.Ref.{now}
 use contract.Lifetimes.{Lfts}
 use borrow.Fn.Kinds.{Dens, endedOf}
@@ -13,7 +12,7 @@ use Rattle.config.specs.Limits.{configHeader}
 use Rattle.format.specs.Line.{headerText, ended}
 use Rattle.format.specs.Lines.{NoLF, noLF-append}
 use Rattle.format.specs.RoundTrip.{header-noLF}
-use Rattle.calls.specs.Calls.{Begun, begun, freshDoes, Resumed, resumed, reopenDoes}
+use Rattle.calls.specs.Calls.{Begun, freshDoes, Resumed, resumed, reopenDoes}
 use Rattle.calls.specs.declared.Session.{Session}
 use Rattle.calls.specs.declared.Reply.{Reply}
 use Rattle.calls.specs.declared.Fresh.{Fresh}
@@ -27,7 +26,7 @@ use Rattle.reopen.proofs.reopen.Kinds as reopen-kinds
 use Rattle.recovery.specs.Model.{Call, Model, modelFresh, modelReplies}
 use Rattle.recovery.specs.Tablet.{Tablet, tablet, run, usedBytes, lastWhole}
 use Rattle.recovery.specs.Statement.{Alike, LineEnd, Promise}
-use Rattle.recovery.specs.Steps.{Good, Holds}
+use Rattle.recovery.specs.Steps.{Holds}
 use Rattle.recovery.specs.Open.{Fresher, fresh-holds, reopens-none}
 use Rattle.recovery.specs.Cells.{model-length}
 use Rattle.recovery.specs.Takeover.{Handover, taken, first-cut}

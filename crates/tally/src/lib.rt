@@ -4,7 +4,6 @@ ghost use Prim.Native.Nat.{_+_, _≤_, _<_};
 ghost use mathlib.Core.List.{[], _++_};
 ghost use lib.ListN.{length, drop};
 ghost use lib.Seq.{sets};
-ghost use Rattle.grid.specs.Cube.{tab};
 ghost use Rattle.tally.specs.Ids.{listIf, bumpAt, Room, idTable, windowIds, windowCounts, presentIds, presentCounts};
 ghost use Rattle.tally.specs.Tally.{saysListed, Tallied};
 

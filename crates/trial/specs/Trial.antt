@@ -17,8 +17,8 @@ use Rattle.chunk.specs.Tests.{Inside}
 use Rattle.chunk.specs.Moves.{put-inside, tab-list}
 use Rattle.edits.specs.Edits.{Group, groupInside, putGroup, batchGroups, insideGroups, batchCells}
 use Rattle.writer.specs.Groups.{groupOf}
-use Rattle.groups.specs.Laid.{laid, laid-none, laid-more, laid-length, laid-all, group-inside, put-outside}
-use Rattle.groups.specs.Net.{Net, change}
+use Rattle.groups.specs.Laid.{laid, laid-length, laid-all, group-inside, put-outside}
+use Rattle.groups.specs.Net.{Net}
 use Rattle.groups.specs.declared.Change.{Change}
 
 -- 16,384 cells from `start` on, air past the last

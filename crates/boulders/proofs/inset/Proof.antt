@@ -1,7 +1,6 @@
 -- `boulders::inset` meets its contract. Assumes nothing.
 use borrow.Author.Needs.{needs}
 use mathlib.Core.Path.{refl}
-use mathlib.Core.List.{[]}
 use Rattle.boulders.specs.Boulders.{insetIn}
 use Rattle.boulders.proofs.inset.Statement.{statement}
 use Rattle.boulders.proofs.inset.Tie as tie

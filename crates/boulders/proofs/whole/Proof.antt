@@ -2,7 +2,6 @@
 use borrow.Author.Needs.{needs}
 use mathlib.Core.Path.{ap, _∙_}
 use native.Mathlib.Omega.{arith}
-use mathlib.Core.List.{[]}
 use Rattle.boulders.specs.Signs.{rangeLength, wholePart}
 use Rattle.boulders.proofs.Counts.{floor-cast, floor-none, floor-some}
 use Rattle.boulders.proofs.whole.Statement.{statement}

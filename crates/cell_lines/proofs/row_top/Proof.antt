@@ -1,9 +1,8 @@
 -- `cell_lines::row_top` meets its contract. Assumes nothing.
-use mathlib.Core.Path.{_≡_, refl, sym, _∙_, subst}
 use mathlib.Core.Logic.{⊎-elim}
 use Prim.Native.Nat.{ℕ, _+_, _-_, _*_, _≤_, _<_}
 use native.Mathlib.Omega.{arith}
-use lib.ListN.{length, getD}
+use lib.ListN.{getD}
 use lib.Arith.{digits-lt}
 use Rattle.cell_lines.proofs.Small.{square}
 use Rattle.cell_lines.specs.Laws.{HighestTo, highest-more}

@@ -1,5 +1,4 @@
 -- `chunk::column_height` meets its contract. Assumes nothing.
-use Prim.Native.Nat.{_-_}
 use borrow.Author.Tests.{lt-ltb, le-ltb}
 use Rattle.edits.specs.Edits.{columnHeight}
 use Rattle.chunk.proofs.column_height.Statement.{statement}

@@ -1,5 +1,4 @@
 -- `chunk::non_air` meets its contract. Assumes nothing.
-use Prim.Native.Nat.{_-_}
 use borrow.Author.Tests.{eq-eqb, ne-eqb}
 use Rattle.chunk.proofs.non_air.Statement.{statement}
 use Rattle.chunk.proofs.non_air.Tie as tie

@@ -1,6 +1,5 @@
 -- `chunk::refuse_cell` meets its contract. Assumes nothing.
 use mathlib.Core.Path.{sym, _∙_}
-use Prim.Native.Nat.{_-_}
 use borrow.Author.Needs.{needs}
 use Rattle.grid.specs.Grid.{in-all, out-x, out-y, out-z}
 use Rattle.chunk.specs.Tests.{cellRefusal, then-chunk, then-stop, then-pass}

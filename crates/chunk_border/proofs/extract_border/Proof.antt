@@ -1,6 +1,6 @@
 -- `chunk_border::extract_border` meets its contract. Assumes nothing.
 use mathlib.Core.Path.{sym, ap, _∙_}
-use Prim.Native.Nat.{ℕ, _-_}
+use Prim.Native.Nat.{ℕ}
 use mathlib.Core.List.{List, []}
 use borrow.Author.Needs.{needs}
 use Rattle.chunk.specs.Replies.{accepted, refused, is-refused, not-refused}

@@ -1,6 +1,5 @@
 -- `chunk_edit::refuse_replace` meets its contract. Assumes nothing.
 use mathlib.Core.Path.{sym, _∙_}
-use Prim.Native.Nat.{_-_}
 use borrow.Author.Needs.{needs}
 use borrow.Author.Tests.{eq-eqb, ne-eqb}
 use Rattle.chunk.specs.Tests.{then-chunk, then-stop, then-pass, chunk-passed}

@@ -1,6 +1,6 @@
 -- `chunk_edit::replace_blocks` meets its contract. Assumes nothing.
 use mathlib.Core.Path.{sym, ap, _∙_, ap₂}
-use Prim.Native.Nat.{ℕ, _-_}
+use Prim.Native.Nat.{ℕ}
 use native.Mathlib.Omega.{arith}
 use mathlib.Core.List.{List, [], _∷_}
 use borrow.Author.Needs.{needs}

@@ -1,6 +1,6 @@
 -- `chunk_look::is_solid` meets its contract. Assumes nothing.
 use mathlib.Core.Path.{sym, ap, _∙_, ap₂}
-use Prim.Native.Nat.{ℕ, _-_}
+use Prim.Native.Nat.{ℕ}
 use mathlib.Core.List.{[], _∷_}
 use lib.Dec.{eqb}
 use borrow.Author.Needs.{needs}

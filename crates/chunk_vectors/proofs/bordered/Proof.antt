@@ -3,10 +3,6 @@ use Rattle.chunk_vectors.proofs.Parts.{fits}
 use borrow.Author.Needs.{needs}
 use Rattle.chunk_vectors.proofs.bordered.Statement.{statement}
 use Rattle.chunk_vectors.proofs.bordered.Tie as tie
-use Rattle.chunk_vectors.proofs.bordered.Reads as reads
-use Rattle.chunk_vectors.proofs.bordered.Lts as lts
-use Rattle.chunk_vectors.proofs.extract.Reads as extract-reads
-use Rattle.replay.proofs.room.Reads as room-reads
 
 -- src/main.rt:139:22
 room-requires : tie.Need-room-requires

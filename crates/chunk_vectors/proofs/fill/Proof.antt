@@ -1,13 +1,10 @@
 -- `chunk_vectors::fill` is safe and ends: each turn leaves fewer cells. Assumes nothing.
 use mathlib.Core.Path.{_≡_, refl, _∙_}
-use Prim.Native.Nat.{_-_, _%_}
+use Prim.Native.Nat.{_-_}
 use lib.ListN.{length, length-set}
 use native.Mathlib.Omega.{arith}
 use Rattle.chunk_vectors.proofs.fill.Statement.{statement}
 use Rattle.chunk_vectors.proofs.fill.Tie as tie
-use Rattle.chunk_vectors.proofs.fill.Reads as reads
-use Rattle.chunk_vectors.proofs.fill.Lts as lts
-use Rattle.chunk_vectors.proofs.small.Reads as small-reads
 
 abbrev Inv-loop : tie.InvT-loop
 Inv-loop cells₀ i₀ cells i = length cells ≡ length cells₀

@@ -3,12 +3,6 @@ use Rattle.chunk_vectors.proofs.Parts.{fits}
 use borrow.Author.Needs.{needs}
 use Rattle.chunk_vectors.proofs.make.Statement.{statement}
 use Rattle.chunk_vectors.proofs.make.Tie as tie
-use Rattle.chunk_vectors.proofs.make.Reads as reads
-use Rattle.chunk_vectors.proofs.make.Lts as lts
-use Rattle.chunk_vectors.proofs.call.Reads as call-reads
-use Rattle.chunk_vectors.proofs.index.Reads as index-reads
-use Rattle.chunk_vectors.proofs.low.Reads as low-reads
-use Rattle.replay.proofs.room.Reads as room-reads
 
 -- src/main.rt:213:21
 room-requires : tie.Need-room-requires

@@ -3,10 +3,6 @@ use Rattle.chunk_vectors.proofs.Parts.{fits}
 use borrow.Author.Needs.{needs}
 use Rattle.chunk_vectors.proofs.replaced.Statement.{statement}
 use Rattle.chunk_vectors.proofs.replaced.Tie as tie
-use Rattle.chunk_vectors.proofs.replaced.Reads as reads
-use Rattle.chunk_vectors.proofs.replaced.Lts as lts
-use Rattle.chunk_vectors.proofs.replace.Reads as replace-reads
-use Rattle.replay.proofs.room.Reads as room-reads
 
 -- src/main.rt:97:18
 room-requires : tie.Need-room-requires

@@ -3,11 +3,6 @@ use Rattle.chunk_vectors.proofs.Parts.{fits}
 use borrow.Author.Needs.{needs}
 use Rattle.chunk_vectors.proofs.tallied.Statement.{statement}
 use Rattle.chunk_vectors.proofs.tallied.Tie as tie
-use Rattle.chunk_vectors.proofs.tallied.Reads as reads
-use Rattle.chunk_vectors.proofs.tallied.Lts as lts
-use Rattle.chunk_vectors.proofs.counts_room.Reads as counts-room-reads
-use Rattle.chunk_vectors.proofs.ids_room.Reads as ids-room-reads
-use Rattle.chunk_vectors.proofs.listed.Reads as listed-reads
 
 -- src/main.rt:173:19
 ids-room-requires : tie.Need-ids-room-requires

@@ -1,6 +1,4 @@
 -- `column_read::relief_in` meets its contract. Assumes nothing.
-use lib.Ieee.{ofBits}
-use Rattle.words.specs.Num.{nearest}
 use Rattle.column_read.specs.Read.{reliefIn}
 use borrow.Author.Needs.{needs}
 use Rattle.column_read.proofs.relief_in.Statement.{statement}

@@ -1,5 +1,5 @@
 -- `column_rows::continent_row` meets its contract. Assumes nothing.
-use mathlib.Core.Path.{_≡_, ap, ap₂, _∙_}
+use mathlib.Core.Path.{ap, ap₂, _∙_}
 use lib.Ieee.{Float, ofBits, neg}
 use Rattle.words.specs.Num.{nearest}
 use Rattle.noise.specs.Noise.{fbm2d₃₂}

@@ -1,8 +1,6 @@
 -- `column_tables::coord` meets its contract. Assumes nothing.
 use borrow.Author.Needs.{needs}
 use borrow.Author.Tests.{lt-ltb, le-ltb}
-use lib.Ieee.{ofBits, neg}
-use Rattle.words.specs.Num.{nearest}
 use Rattle.column_tables.specs.Coords.{coordOf}
 use Rattle.column_tables.proofs.coord.Statement.{statement}
 use Rattle.column_tables.proofs.coord.Tie as tie

@@ -1,5 +1,4 @@
 -- `column_tables::fill_coords` meets its contract. Assumes nothing.
-use mathlib.Core.Path.{_≡_, refl, ap}
 use Prim.Native.Nat.{_-_, _≤_}
 use native.Mathlib.Omega.{arith}
 use Rattle.column_tables.specs.Coords.{coordsOf}

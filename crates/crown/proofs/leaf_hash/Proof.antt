@@ -1,7 +1,6 @@
 -- `crown::leaf_hash` meets its contract. Assumes nothing.
 use borrow.Author.Needs.{needs}
 use mathlib.Core.Path.{ap₂, _∙_}
-use mathlib.Core.List.{[]}
 use mir.Syntax.{w32}
 use mir.ValLaws.{toZ-ofZ}
 use Rattle.words.specs.Laws.{read}

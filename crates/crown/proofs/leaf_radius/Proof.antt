@@ -1,7 +1,6 @@
 -- `crown::leaf_radius` meets its contract. Assumes nothing.
 use Prim.Native.Nat.{_≤_}
 use native.Mathlib.Omega.{arith}
-use mathlib.Core.List.{[]}
 use Rattle.crown.proofs.Radii.{few, low as radius-low, high as radius-high}
 use Rattle.crown.proofs.leaf_radius.Statement.{statement}
 use Rattle.crown.proofs.leaf_radius.Tie as tie

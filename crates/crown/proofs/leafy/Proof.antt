@@ -5,7 +5,6 @@ use Prim.Native.Nat.{_+_, _*_, _≤_, _<_}
 use native.Mathlib.Omega.{arith}
 use native.Mathlib.Nat.{mul-le-mul}
 use mathlib.Core.Bool.{true, false}
-use mathlib.Core.List.{[]}
 use lib.IntN.{ℤ}
 use lib.Ieee.{ofBits, lt}
 use mir.Syntax.{w32}

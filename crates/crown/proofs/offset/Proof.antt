@@ -1,6 +1,5 @@
 -- `crown::offset` meets its contract. Assumes nothing.
 use borrow.Author.Needs.{needs}
-use mathlib.Core.List.{[]}
 use borrow.Author.Tests.{lt-ltb, le-ltb}
 use Rattle.crown.specs.Crown.{offsetOr}
 use Rattle.crown.proofs.offset.Statement.{statement}

@@ -4,7 +4,6 @@ use mathlib.Core.Path.{_≡_, ap}
 use Prim.Native.Nat.{ℕ, _+_, _-_, _*_, _≤_, _<_}
 use native.Mathlib.Omega.{arith}
 use native.Mathlib.Nat.{mul-le-mul}
-use mathlib.Core.List.{[]}
 use Rattle.crown.specs.Crown.{squareGap}
 use Rattle.crown.proofs.square_gap.Statement.{statement}
 use Rattle.crown.proofs.square_gap.Tie as tie

@@ -1,29 +1,18 @@
-use borrow.Author.Needs.{needs}
-use mathlib.Core.Path.{_≡_, refl, sym, ap, ap₂, _∙_, subst}
-use Prim.Native.Nat.{ℕ, zero, suc, _+_, _-_, _*_, _/_, _%_, _^_, _≤_, _<_}
+use mathlib.Core.Path.{_≡_, sym, ap, _∙_}
+use Prim.Native.Nat.{ℕ, _+_, _-_, _≤_, _<_}
 use native.Mathlib.Omega.{arith}
 use native.Mathlib.Numerals.{add-one}
-use native.Mathlib.Nat.{mod-lt, mul-le-mul, div-lt-iff-lt-mul}
-use mathlib.Core.Bool.{Bool, true, false, _&&_, _||_, cond}
-use mathlib.Core.List.{List, [], _∷_, _++_}
+use mathlib.Core.Bool.{Bool, cond}
+use mathlib.Core.List.{[], _∷_}
 use mathlib.Core.Logic.{⊎-elim}
-use lib.Dec.{T, ltb, leb, eqb}
-use lib.IntN.{ℤ, pos, negsuc, natAbs, _+ℤ_, _-ℤ_, subℕ}
-use lib.Signed.{ltZ, leZ, mag, nonNeg}
-use lib.ListN.{length, set, getD, drop, length-set}
-use mir.Syntax.{w32, w64, w16}
-use mir.Val.{SFits, Fits, ofZ, toZ}
-use borrow.Author.Tests.{lt-ltb, le-ltb, eq-eqb, ne-eqb, ltb-true, ltb-false, eqb-true, eqb-false}
-use lib.IntN.{_*ℤ_}
+use lib.Dec.{eqb}
+use lib.ListN.{length, getD}
+use borrow.Author.Tests.{eq-eqb, ne-eqb}
 use lib.ListN.{take}
 use lib.Seq.{take-suc, take-all}
-use Rattle.grid.specs.Grid.{square-most, cube-most, fill-at}
-use Rattle.grid.specs.Cube.{Cube}
 use Rattle.grid.specs.Count.{nonAirCount, count-append, count-none, count-one}
 use Rattle.grid.proofs.count_non_air.Statement.{statement}
 use Rattle.grid.proofs.count_non_air.Tie as tie
-use Rattle.grid.proofs.count_non_air.Reads as reads
-use Rattle.grid.proofs.count_non_air.Lts as lts
 
 abbrev Inv-loop : tie.InvT-loop
 Inv-loop cells n₀ i₀ n i = (i ≤ length cells) × (n ≡ nonAirCount (take i cells)) × (n ≤ i)

@@ -1,14 +1,10 @@
 -- `ground_vectors::lay_in` lends a part of the array that is no longer than the array. Assumes nothing.
-use mathlib.Core.Path.{_≡_, sym}
+use mathlib.Core.Path.{sym}
 use native.Mathlib.Omega.{arith}
 use lib.Seq.{length-take-le}
 use borrow.Author.Needs.{needs}
 use Rattle.ground_vectors.proofs.lay_in.Statement.{statement}
 use Rattle.ground_vectors.proofs.lay_in.Tie as tie
-use Rattle.ground_vectors.proofs.lay_in.Reads as reads
-use Rattle.ground_vectors.proofs.lay_in.Lts as lts
-use Rattle.ground_vectors.proofs.lay.Reads as lay-reads
-use Rattle.replay.proofs.room.Reads as room-reads
 
 -- src/main.rt:88:21
 room-requires : tie.Need-room-requires

@@ -2,13 +2,8 @@
 use Prim.Native.Nat.{_-_}
 use lib.ListN.{length}
 use native.Mathlib.Omega.{arith}
-use borrow.Author.Needs.{needs}
 use Rattle.ground_vectors.proofs.show_all.Statement.{statement}
 use Rattle.ground_vectors.proofs.show_all.Tie as tie
-use Rattle.ground_vectors.proofs.show_all.Reads as reads
-use Rattle.ground_vectors.proofs.show_all.Lts as lts
-use Rattle.ground_vectors.proofs.show.Reads as show-reads
-use Rattle.replay.proofs.wide_id.Reads as wide-id-reads
 
 abbrev Inv-loop : tie.InvT-loop
 Inv-loop cells i₀ i = Unit {0}

@@ -3,8 +3,6 @@ use native.Mathlib.Omega.{arith}
 use Rattle.grid.specs.Grid.{square-most, cube-most}
 use Rattle.ground_vectors.proofs.volume.Statement.{statement}
 use Rattle.ground_vectors.proofs.volume.Tie as tie
-use Rattle.ground_vectors.proofs.volume.Reads as reads
-use Rattle.ground_vectors.proofs.volume.Lts as lts
 
 -- src/main.rt:77:5
 mul-result : tie.Need-mul-result

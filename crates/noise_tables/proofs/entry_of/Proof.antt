@@ -1,10 +1,9 @@
 -- `noise_tables::entry_of` meets its contract. Assumes nothing.
 use borrow.Author.Needs.{needs}
-use mathlib.Core.Path.{_≡_, ap, ap₂, _∙_}
-use lib.Ieee.{Float, binary32, sub, ofInt}
+use mathlib.Core.Path.{ap, ap₂, _∙_}
+use lib.Ieee.{Float, binary32, sub}
 use mir.Syntax.{w32}
 use mir.Val.{ofZ}
-use Rattle.words.specs.Num.{floorI}
 use Rattle.words.proofs.Floor.{floor-again}
 use Rattle.noise.specs.Noise.{smooth₃₂, ease₃₂}
 use Rattle.noise_tables.specs.Places.{entryWith, entryOf}

@@ -1,9 +1,7 @@
 -- `noise_tables::note_octave` meets its contract. Assumes nothing.
-use mathlib.Core.Path.{_≡_, _∙_}
-use Prim.Native.Nat.{_+_, _-_, _≤_, _<_}
+use mathlib.Core.Path.{_≡_}
+use Prim.Native.Nat.{_-_, _≤_, _<_}
 use native.Mathlib.Omega.{arith}
-use lib.ListN.{length}
-use borrow.Author.Needs.{needs}
 use Rattle.noise_tables.specs.Places.{Told, told-none, told-more}
 use Rattle.noise_tables.proofs.note_octave.Statement.{statement}
 use Rattle.noise_tables.proofs.note_octave.Tie as tie

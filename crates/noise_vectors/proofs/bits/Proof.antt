@@ -1,13 +1,11 @@
 -- `noise_vectors::bits` asks for a pattern only off a NaN: a NaN is not equal to itself. Assumes nothing.
 use mathlib.Core.Path.{_≡_, sym, subst}
-use mathlib.Core.Bool.{Bool, true, not}
+use mathlib.Core.Bool.{true, not}
 use lib.Dec.{T}
 use lib.Ieee.{Float, nan, inf, fin, eq, isNan}
 use borrow.Author.Needs.{needs}
 use Rattle.noise_vectors.proofs.bits.Statement.{statement}
 use Rattle.noise_vectors.proofs.bits.Tie as tie
-use Rattle.noise_vectors.proofs.bits.Reads as reads
-use Rattle.noise_vectors.proofs.bits.Lts as lts
 
 no-nan : (v : Float) → eq v v ≡ true → T (not (isNan v))
 unfolding eq isNan

@@ -9,8 +9,6 @@ use borrow.Author.Tests.{le-ltb}
 use borrow.Author.Needs.{needs}
 use Rattle.noise_vectors.proofs.float.Statement.{statement}
 use Rattle.noise_vectors.proofs.float.Tie as tie
-use Rattle.noise_vectors.proofs.float.Reads as reads
-use Rattle.noise_vectors.proofs.float.Lts as lts
 
 -- src/main.rt:13:41
 float-from-bits-result : tie.Need-float-from-bits-result

@@ -6,12 +6,6 @@ use mathlib.Core.Path.{sym}
 use borrow.Author.Needs.{needs}
 use Rattle.program.proofs.print_map.Statement.{statement}
 use Rattle.program.proofs.print_map.Tie as tie
-use Rattle.program.proofs.print_map.Reads as reads
-use Rattle.program.proofs.print_map.Lts as lts
-use Rattle.io.proofs.write_all.Reads as write-all-reads
-use Rattle.program.proofs.cells_room.Reads as cells-room-reads
-use Rattle.program.proofs.text_room.Reads as text-room-reads
-use Rattle.report.proofs.report.Reads as report-reads
 
 cells-room-requires : tie.Need-cells-room-requires
 cells-room-requires c κs = search needs

@@ -2,12 +2,8 @@
 use Prim.Native.Nat.{_-_}
 use lib.ListN.{length}
 use native.Mathlib.Omega.{arith}
-use borrow.Author.Needs.{needs}
 use Rattle.replay.proofs.checksum.Statement.{statement}
 use Rattle.replay.proofs.checksum.Tie as tie
-use Rattle.replay.proofs.checksum.Reads as reads
-use Rattle.replay.proofs.checksum.Lts as lts
-use Rattle.replay.proofs.add_id.Reads as add-id-reads
 
 abbrev Inv-loop : tie.InvT-loop
 Inv-loop cells sum₀ i₀ sum i = Unit {0}

@@ -2,12 +2,8 @@
 use Prim.Native.Nat.{_-_}
 use lib.ListN.{length}
 use native.Mathlib.Omega.{arith}
-use borrow.Author.Needs.{needs}
 use Rattle.replay.proofs.digits.Statement.{statement}
 use Rattle.replay.proofs.digits.Tie as tie
-use Rattle.replay.proofs.digits.Reads as reads
-use Rattle.replay.proofs.digits.Lts as lts
-use Rattle.replay.proofs.join.Reads as join-reads
 
 abbrev Inv-loop : tie.InvT-loop
 Inv-loop text from bits₀ at₀ bits at = Unit {0}

@@ -3,10 +3,6 @@ use Prim.Native.Nat.{_-_}
 use native.Mathlib.Omega.{arith}
 use Rattle.replay.proofs.seven.Statement.{statement}
 use Rattle.replay.proofs.seven.Tie as tie
-use Rattle.replay.proofs.seven.Reads as reads
-use Rattle.replay.proofs.seven.Lts as lts
-use Rattle.replay.proofs.number.Reads as number-reads
-use Rattle.replay.proofs.past.Reads as past-reads
 
 abbrev Inv-loop : tie.InvT-loop
 Inv-loop text from list₀ at₀ i₀ list at i = Unit {0}

@@ -1,6 +1,5 @@
 -- `row_levels::begin_row` meets its contract. Assumes nothing.
 use borrow.Author.Needs.{needs}
-use Prim.Native.Nat.{_≤_, _<_}
 use native.Mathlib.Omega.{arith}
 use Rattle.row_levels.proofs.begin_row.Statement.{statement}
 use Rattle.row_levels.proofs.begin_row.Tie as tie

@@ -1,10 +1,10 @@
 -- `row_levels::lay_levels` meets its contract. Assumes nothing.
-use mathlib.Core.Path.{_≡_, refl, sym, ap, _∙_, subst}
+use mathlib.Core.Path.{_≡_, refl, sym, _∙_, subst}
 use Prim.Native.Nat.{ℕ, _+_, _-_, _*_, _≤_, _<_}
 use native.Mathlib.Omega.{arith}
 use lib.ListN.{length}
 use Rattle.cell_lines.specs.Lines.{DoneTo}
-use Rattle.row_levels.specs.Rows.{Lent, Ready}
+use Rattle.row_levels.specs.Rows.{Ready}
 use Rattle.row_levels.proofs.Marks.{done-at}
 use Rattle.row_levels.proofs.lay_levels.Statement.{statement}
 use Rattle.row_levels.proofs.lay_levels.Tie as tie

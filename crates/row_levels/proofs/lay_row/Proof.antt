@@ -1,15 +1,13 @@
 -- `row_levels::lay_row` meets its contract. Assumes nothing.
 use borrow.Author.Needs.{needs}
-use mathlib.Core.Path.{_≡_, refl, sym, ap, ap₂, _∙_, subst}
-use Prim.Native.Nat.{ℕ, _+_, _-_, _*_, _≤_, _<_}
+use mathlib.Core.Path.{_≡_, sym, ap, _∙_, subst}
+use Prim.Native.Nat.{ℕ, _-_, _≤_}
 use native.Mathlib.Omega.{arith}
 use lib.IntN.{ℤ}
-use lib.ListN.{length}
 use lib.Signed.{mag}
 use Rattle.cell_lines.specs.Lines.{belowLevel}
 use Rattle.cell_lines.specs.Laws.{below-most, height-range}
 use Rattle.terrain.proofs.Signed.{back}
-use Rattle.row_levels.specs.Rows.{Lent, Ready, Begun}
 use Rattle.row_levels.proofs.lay_row.Statement.{statement}
 use Rattle.row_levels.proofs.lay_row.Tie as tie
 

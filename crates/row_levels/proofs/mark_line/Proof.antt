@@ -1,11 +1,8 @@
 -- `row_levels::mark_line` meets its contract. Assumes nothing.
 use borrow.Author.Needs.{needs}
-use mathlib.Core.Path.{_≡_, _∙_}
-use Prim.Native.Nat.{ℕ, _+_, _-_, _*_, _≤_, _<_}
+use Prim.Native.Nat.{_<_}
 use native.Mathlib.Omega.{arith}
-use lib.ListN.{length}
-use Rattle.row_levels.specs.Rows.{Ready}
-use Rattle.row_levels.proofs.Marks.{between, inside, outside, high-most}
+use Rattle.row_levels.proofs.Marks.{between, inside, outside}
 use Rattle.row_levels.proofs.mark_line.Statement.{statement}
 use Rattle.row_levels.proofs.mark_line.Tie as tie
 

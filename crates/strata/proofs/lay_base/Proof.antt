@@ -1,8 +1,7 @@
 -- `strata::lay_base` meets its contract. Assumes nothing.
 use borrow.Author.Needs.{needs}
-use mathlib.Core.Path.{_≡_, refl, sym, _∙_, subst}
+use mathlib.Core.Path.{refl, sym, subst}
 use Prim.Native.Nat.{ℕ, _≤_}
-use lib.ListN.{length}
 use Rattle.strata.proofs.lay_base.Statement.{statement}
 use Rattle.strata.proofs.lay_base.Tie as tie
 

@@ -1,6 +1,5 @@
 -- `tally::one_if_listed` meets its contract. Assumes nothing.
 use mathlib.Core.Path.{sym, ap}
-use Prim.Native.Nat.{_-_}
 use lib.ListN.{length}
 use Rattle.tally.specs.Spans.{list-no-id, list-no-cell, list-one}
 use Rattle.tally.proofs.one_if_listed.Statement.{statement}

@@ -1,6 +1,5 @@
 -- `features::tree::giant` meets its contract. Assumes nothing.
 use mathlib.Core.Path.{refl}
-use mathlib.Core.List.{[]}
 use lib.Ieee.{ofBits}
 use Rattle.words.specs.Num.{nearest}
 use Rattle.features.specs.Features.{isGiant}

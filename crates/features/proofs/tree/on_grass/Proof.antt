@@ -2,7 +2,6 @@
 use borrow.Author.Needs.{needs}
 use mathlib.Core.Path.{ap, _∙_}
 use Prim.Native.Nat.{ℕ, _-_}
-use mathlib.Core.List.{[]}
 use lib.Dec.{eqb}
 use lib.IntN.{ℤ, pos}
 use Rattle.grid.specs.Cube.{seeAt}

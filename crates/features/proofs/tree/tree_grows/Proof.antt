@@ -1,5 +1,4 @@
 -- `features::tree::tree_grows` meets its contract. Assumes nothing.
-use mathlib.Core.List.{[]}
 use lib.Ieee.{ofBits}
 use borrow.Author.Tests.{eq-eqb, ne-eqb}
 use Rattle.words.specs.Num.{nearest}
