@@ -9,11 +9,12 @@ use lib.Arith.{digits-lt, digits-div, digits-mod}
 use lib.Dec.{ltb}
 use lib.IntN.{ℤ, pos, _+ℤ_}
 use lib.ListN.{length, getD, set, length-set}
-use lib.Seq.{getD-set-same, getD-set-other, ext-getD}
+use lib.Seq.{ext-getD}
 use borrow.Author.Tests.{ltb-true, ltb-false}
 use Rattle.grid.specs.Cube.{tab}
 use Rattle.grid.specs.Grid.{tab-length, tab-at}
 use Rattle.words.specs.Laws.{ap₃}
+use Rattle.words.specs.Front.{front-more}
 use Rattle.terrain.specs.World.{Tall, heightAt, topAt, topWith, cellWith, cellUnder, baseCell, localY}
 use Rattle.terrain.specs.Base.{Noted, columnHeight, columnBiome, baseNumbered, baseCells}
 use Rattle.terrain.specs.Laws.{height-least, height-most, cell-told}
@@ -33,17 +34,11 @@ module _ (w : World) (o : Frame) where
 
   pub laying-more : (r n : ℕ) (c : List ℕ) (v : ℕ) → r * o .size + n < o .size * o .size * o .size → v ≡ baseNumbered w o (r * o .size + n) → Laying w o r n c
       → Laying w o r (n + 1) (set c (r * o .size + n) v)
-  laying-more r n c v h e l = record { all = length-set c (r * o .size + n) v ∙ l .all; each = λ (i : ℕ) k. here i k (ltb i (r * o .size + n)) refl }
-    where
-      here : (i : ℕ) → i < r * o .size + (n + 1) → (t : Bool) → ltb i (r * o .size + n) ≡ t → getD (set c (r * o .size + n) v) i 0 ≡ baseNumbered w o i
-      here i k true t =
-          let m = ltb-true i (r * o .size + n) t in
-          getD-set-other c (r * o .size + n) i v 0 (λ (q : i ≡ r * o .size + n). omega arith) ∙ l .each i m
-      here i k false t =
-          let m : i ≡ r * o .size + n = (let d = ltb-false i (r * o .size + n) t in omega arith) in
-          let a = l .all in
-          ap (λ (u : ℕ). getD (set c (r * o .size + n) v) u 0) m
-          ∙ getD-set-same c (r * o .size + n) v 0 (omega arith) ∙ e ∙ ap (baseNumbered w o) (sym m)
+  laying-more r n c v h e l =
+      let k = r * o .size + n in
+      let a = l .all in
+      let held = front-more 0 (baseNumbered w o) c k v (omega arith) e (l .each) in
+      record { all = length-set c k v ∙ a; each = λ (i : ℕ) q. held i (omega arith) }
 
   pub laying-all : (r n : ℕ) (c : List ℕ) → n ≡ o .size → Laying w o r n c → DoneTo w o (r + 1) c
   laying-all r n c e l =

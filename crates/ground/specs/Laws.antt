@@ -37,7 +37,8 @@ unfolding ground
 ground-ids s p i = grown (worldOf s) (frameOf s p) .ids (base-ids (worldOf s) (frameOf s p)) i
 
 -- 01, Cell: "Cells at or below wy 0 are solid."
-pub ground-solid : (s : TerrainConfig) (p : ChunkPos) → limitRefusal (configHeader s p) ≡ 0 → (x y z : ℕ) → x < s .«chunk_size» → y < s .«chunk_size» → z < s .«chunk_size» → leZ (p .cy *ℤ pos (s .«chunk_size») +ℤ pos y) (pos 0) ≡ true → 0 < getD (ground s p) (cellIndex (s .«chunk_size») x y z) 0
+pub ground-solid : (s : TerrainConfig) (p : ChunkPos) → limitRefusal (configHeader s p) ≡ 0 → (x y z : ℕ) → x < s .«chunk_size» → y < s .«chunk_size»
+    → z < s .«chunk_size» → leZ (p .cy *ℤ pos (s .«chunk_size») +ℤ pos y) (pos 0) ≡ true → 0 < getD (ground s p) (cellIndex (s .«chunk_size») x y z) 0
 unfolding ground frameOf
 ground-solid s p l x y z hx hy hz e =
     let w = worldOf s in

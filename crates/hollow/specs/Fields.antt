@@ -1,15 +1,11 @@
 -- The sums of octaves along a row, and what they say of its cells. Assumes nothing.
-use mathlib.Core.Path.{_≡_, refl, sym, ap, _∙_}
+use mathlib.Core.Path.{_≡_}
 use mathlib.Core.List.{List}
-use mathlib.Core.Bool.{Bool, true, false, _&&_, _||_}
+use mathlib.Core.Bool.{Bool, false, _&&_, _||_}
 use Prim.Native.Nat.{ℕ, _+_, _*_, _<_}
-use native.Mathlib.Omega.{arith}
-use lib.Dec.{ltb}
 use lib.IntN.{pos, _+ℤ_}
 use lib.Ieee.{Float, lt}
-use lib.ListN.{length, getD, set}
-use lib.Seq.{getD-set-same, getD-set-other}
-use borrow.Author.Tests.{ltb-true, ltb-false}
+use lib.ListN.{getD}
 use Rattle.words.specs.Num.{nearest, clamp₃₂}
 use Rattle.column.specs.Floats.{_+f_, _-f_, _*f_, _/f_, nat, real, square}
 use Rattle.noise_tables.specs.Row.{at}
@@ -38,26 +34,6 @@ hollowOf a b c y h cut =
 -- cell i of a row, whose columns' heights begin at k
 unfoldable pub judgedAt : Float → ℕ → List ℕ → List Bool → List Float → List Float → List Float → ℕ → Bool
 judgedAt y k heights cuts a b c i = hollowOf (at a i) (at b i) (at c i) y (real (pos (getD heights (k + i) 0))) (getD cuts i false)
-
--- the first n flags are those of the sums
-pub record Judged (y : Float) (k n : ℕ) (heights : List ℕ) (cuts : List Bool) (a b c : List Float) (flags : List Bool) : Type 0 where
-  pub each : (i : ℕ) → i < n → getD flags i false ≡ judgedAt y k heights cuts a b c i
-
-module _ (y : Float) (k : ℕ) (heights : List ℕ) (cuts : List Bool) (a b c : List Float) where
-  pub judged-none : (flags : List Bool) → Judged y k 0 heights cuts a b c flags
-  judged-none flags = record { each = λ (i : ℕ) h. absurd (omega arith) }
-
-  pub judged-more : (n : ℕ) (flags : List Bool) (v : Bool) → n < length flags → v ≡ judgedAt y k heights cuts a b c n → Judged y k n heights cuts a b c flags
-      → Judged y k (n + 1) heights cuts a b c (set flags n v)
-  judged-more n flags v h e g = record { each = λ (i : ℕ) l. here i l (ltb i n) refl }
-    where
-      here : (i : ℕ) → i < n + 1 → (t : Bool) → ltb i n ≡ t → getD (set flags n v) i false ≡ judgedAt y k heights cuts a b c i
-      here i l true t =
-          let m = ltb-true i n t in
-          getD-set-other flags n i v false (λ (q : i ≡ n). omega arith) ∙ g .each i m
-      here i l false t =
-          let m : i ≡ n = (let d = ltb-false i n t in omega arith) in
-          ap (λ (u : ℕ). getD (set flags n v) u false) m ∙ getD-set-same flags n v false h ∙ e ∙ ap (judgedAt y k heights cuts a b c) (sym m)
 
 -- the flags say which cells of the row at z are hollow at level y
 pub record Hollow (f : Frame) (y z : ℕ) (heights : List ℕ) (flags : List Bool) : Type 0 where

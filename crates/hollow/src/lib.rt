@@ -4,14 +4,14 @@
 ghost use mathlib.Core.Path.{_≡_};
 ghost use Prim.Native.Nat.{_+_, _*_, _≤_, _<_};
 ghost use lib.ListN.{length};
-ghost use Rattle.noise_tables.specs.Row.{Row};
+ghost use Rattle.noise_tables.specs.Row.{Row, Flags};
 ghost use Rattle.noise_tables.specs.Places.{Noted};
 ghost use Rattle.noise_rows.specs.Sums.{zeroAt};
 ghost use Rattle.cave_coords.specs.Coords.{coordOf};
 ghost use Rattle.ravines.specs.Cuts.{Cuts};
 ghost use Rattle.terrain.specs.World.{Near};
 ghost use Rattle.hollow.specs.Layers.{Room, AllLayers};
-ghost use Rattle.hollow.specs.Fields.{sum3Of, sum2Of, hollowOf, Judged, Hollow};
+ghost use Rattle.hollow.specs.Fields.{sum3Of, sum2Of, hollowOf, judgedAt, Hollow};
 use noise_layers::add_row;
 use noise_layers::layer_rows;
 use terrain::world::Frame;
@@ -121,7 +121,7 @@ fn judge(
     flags: &mut [bool],
 )
     requires { ⌜ (n ≤ 64) × (k ≤ 4096) × (k + n ≤ length (now heights)) × (n ≤ length (now cuts)) × (n ≤ length (now a)) × (n ≤ length (now b)) × (n ≤ length (now c)) × (n ≤ length (now flags)) ⌝ }
-    ensures { λ _. ⌜ Judged y k n (now (heights .entry)) (now (cuts .entry)) (now (a .entry)) (now (b .entry)) (now (c .entry)) (now (flags .exit)) ⌝ }
+    ensures { λ _. ⌜ Flags n (judgedAt y k (now (heights .entry)) (now (cuts .entry)) (now (a .entry)) (now (b .entry)) (now (c .entry))) (now (flags .exit)) ⌝ }
 {
     let mut i = 0;
     while i < n {

@@ -121,7 +121,8 @@ module _ (Of : Def) (key : Name) {M : Type 1} (𝓤 : URA M) (H : Heap 𝓤) (A 
   abbrev to-callee : Callee Of 𝓤 H A .Ghost
   to-callee = (((κ₁, (κ₂, tt)), (q₁, (q₂, tt)), tt, (h, (x₁, (x₂, (n₁, (n₂, (n₃, (n₄, tt))))))), (LL.vals S.the-type S′.the-laws h, (slice-vals x₁, (slice-vals x₂, (vint w64 n₁ ∷ [], (vint w64 n₂ ∷ [], (vint w64 n₃ ∷ [], (vint w16 n₄ ∷ [], tt)))))))), tt)
 
-  goes : Is S.the-row h (LL.vals S.the-type S′.the-laws h) → ent 𝓤 (⋆ 𝓤 H A ((‵ (flft κ₁ q₁) ⊛ ‵ (flft κ₂ q₂) ⊛ ‵ ftrue) ∷ ‵ (MutSlice (named 0) κ₁ u16 .own x₁ (slice-vals x₁)) ∷ ‵ (MutSlice (named 1) κ₂ u8 .own x₂ (slice-vals x₂)) ∷ [])) (Callee Of 𝓤 H A .pre to-callee)
+  goes : Is S.the-row h (LL.vals S.the-type S′.the-laws h)
+      → ent 𝓤 (⋆ 𝓤 H A ((‵ (flft κ₁ q₁) ⊛ ‵ (flft κ₂ q₂) ⊛ ‵ ftrue) ∷ ‵ (MutSlice (named 0) κ₁ u16 .own x₁ (slice-vals x₁)) ∷ ‵ (MutSlice (named 1) κ₂ u8 .own x₂ (slice-vals x₂)) ∷ [])) (Callee Of 𝓤 H A .pre to-callee)
   goes g =
       qed W ((‵ (flft κ₁ q₁) ⊛ ‵ (flft κ₂ q₂) ⊛ ‵ ftrue) ∷ ‵ (MutSlice (named 0) κ₁ u16 .own x₁ (slice-vals x₁)) ∷ ‵ (MutSlice (named 1) κ₂ u8 .own x₂ (slice-vals x₂)) ∷ []) ∵
       nothing ! $ owned ! u16 (Is u16) (uint-makes 𝓤 H A W w16) n₄ _ (refl, n₄-fits) $ fjoin ! $ owned ! usize (Is usize) (uint-makes 𝓤 H A W w64) n₃ _ (refl, n₃-fits) $ fjoin ! $ owned ! usize (Is usize) (uint-makes 𝓤 H A W w64) n₂ _ (refl, n₂-fits) $ fjoin ! $ owned ! usize (Is usize) (uint-makes 𝓤 H A W w64) n₁ _ (refl, n₁-fits) $ fjoin ! $ move ! (3 ∷ 0 ∷ []) $ fjoin ! $
@@ -134,7 +135,8 @@ module _ (Of : Def) (key : Name) {M : Type 1} (𝓤 : URA M) (H : Heap 𝓤) (A 
   reply-is : (r : Edited) (vs : List Val) → Is B.the-row r vs → Is R.the-row (r .reply) (LL.vals R.the-type R′.the-laws (r .reply))
   reply-is r vs is = LL.owed B.the-type B′.the-laws r vs is .1 .0
 
-  exits : (r : Edited) (cs js : List ℕ) → Ensures Of h (x₁ .now) (x₂ .now) n₁ n₂ n₃ n₄ r cs js → length cs ≡ length (x₁ .now) → length js ≡ length (x₂ .now) → Is R.the-row (r .reply) (LL.vals R.the-type R′.the-laws (r .reply))
+  exits : (r : Edited) (cs js : List ℕ) → Ensures Of h (x₁ .now) (x₂ .now) n₁ n₂ n₃ n₄ r cs js → length cs ≡ length (x₁ .now) → length js ≡ length (x₂ .now)
+      → Is R.the-row (r .reply) (LL.vals R.the-type R′.the-laws (r .reply))
       → ent 𝓤 (⋆ 𝓤 H A (‵ (fobs γ (S.the-row .coded .code (r .session))) ∷ ‵ (fbor κ (Body (mem S.the-row) b o γ)) ∷ ‵ (flft κ q) ∷ (‵ (flft κ₁ q₁) ⊛ ‵ (flft κ₂ q₂) ⊛ ‵ ftrue) ∷ ‵ (finally u8 (x₂ .name) js) ∷ ‵ (finally u16 (x₁ .name) cs) ∷ []))
       (Post (LL.val R.the-type R′.the-laws (r .reply)))
   exits r cs js e l₁ l₂ is =
@@ -145,7 +147,8 @@ module _ (Of : Def) (key : Name) {M : Type 1} (𝓤 : URA M) (H : Heap 𝓤) (A 
       move ! (2 ∷ 0 ∷ []) $ fjoin ! $ move ! (2 ∷ 0 ∷ []) $ fjoin ! $ move ! (1 ∷ 0 ∷ []) $ fjoin ! $ frame ! $ owned ! R.the-row (Is R.the-row) (LL.makes R.the-type R′.the-plain 𝓤 H A) (r .reply) _ is $ done !
 
   module _ (C : Calls 𝓤 H) (Λ : Loops 𝓤 H) (fm : FmC 𝓤 H (W .laws) C) (known : Triple 𝓤 (C key) (Callee Of 𝓤 H A)) where
-    walk : Room u16 (length (x₁ .now)) → Room u8 (length (x₂ .now)) → ent 𝓤 (onEntry 𝓤 H A f.signature (κ, (κ₁, (κ₂, tt))) (q, (q₁, (q₂, tt))) a vals) (WpFn 𝓤 H C Λ (thin key) (vptr b o ∷ only (slice-vals x₁) ∷ only (slice-vals x₂) ∷ vint w64 n₁ ∷ vint w64 n₂ ∷ vint w64 n₃ ∷ vint w16 n₄ ∷ []) Post)
+    walk : Room u16 (length (x₁ .now)) → Room u8 (length (x₂ .now))
+        → ent 𝓤 (onEntry 𝓤 H A f.signature (κ, (κ₁, (κ₂, tt))) (q, (q₁, (q₂, tt))) a vals) (WpFn 𝓤 H C Λ (thin key) (vptr b o ∷ only (slice-vals x₁) ∷ only (slice-vals x₂) ∷ vint w64 n₁ ∷ vint w64 n₂ ∷ vint w64 n₃ ∷ vint w16 n₄ ∷ []) Post)
     walk room₁ room₂ =
         qed W ((‵ (flft κ q) ⊛ ‵ (flft κ₁ q₁) ⊛ ‵ (flft κ₂ q₂) ⊛ ‵ ftrue) ∷ ‵ (owns (MutRef (named 0) κ S.the-row ∷ MutSlice (named 1) κ₁ u16 ∷ MutSlice (named 2) κ₂ u8 ∷ usize ∷ usize ∷ usize ∷ u16 ∷ []) a vals) ∷ []) ∵ enter ! C Λ (thin key) (vptr b o ∷ only (slice-vals x₁) ∷ only (slice-vals x₂) ∷ vint w64 n₁ ∷ vint w64 n₂ ∷ vint w64 n₃ ∷ vint w16 n₄ ∷ []) _ $
         alloc1 ! (λ l₀. alloc1 ! (λ l₁. alloc1 ! (λ l₂. alloc1 ! (λ l₃. alloc1 ! (λ l₄. alloc1 ! (λ l₅. alloc1 ! (λ l₆. alloc1 ! (λ l₇. alloc1 ! (λ l₈. alloc1 ! (λ l₉. alloc1 ! (λ l₁₀. alloc1 ! (λ l₁₁. alloc1 ! (λ l₁₂. alloc1 ! (λ l₁₃. alloc0 ! $ params1 ! $

@@ -1,14 +1,12 @@
 -- Rows that are filled from the front. Assumes nothing.
-use mathlib.Core.Path.{_≡_, refl, sym, ap, _∙_}
+use mathlib.Core.Path.{_≡_, refl, _∙_}
 use Prim.Native.Nat.{ℕ, _+_, _≤_, _<_}
 use native.Mathlib.Omega.{arith}
-use mathlib.Core.Bool.{Bool, true, false}
 use mathlib.Core.List.{List}
-use lib.Dec.{ltb}
 use lib.ListN.{length, set, length-set}
-use lib.Seq.{getD-set-same, getD-set-other}
+use lib.Seq.{getD-set-other}
 use lib.Ieee.{Float, nan}
-use borrow.Author.Tests.{ltb-true, ltb-false}
+use Rattle.words.specs.Front.{front-more}
 use Rattle.noise_tables.specs.Row.{at, Row}
 
 -- the first i places of the row hold f, the others what they held
@@ -21,18 +19,11 @@ pub start : (f : ℕ → Float) (l : List Float) → Filling 0 f l l
 start f l = record { same = refl; done = λ j h. absurd (omega arith); rest = λ j h. refl }
 
 pub step : (f : ℕ → Float) (old l : List Float) (i : ℕ) (v : Float) → Filling i f old l → i < length old → v ≡ f i → Filling (i + 1) f old (set l i v)
-step f old l i v r h e =
-    record { same = length-set l i v ∙ r .same; done = λ j k. one j k (ltb j i) refl; rest = λ j k. other j (omega arith) ∙ r .rest j (omega arith) }
-  where
-    other : (j : ℕ) → (j ≡ i → ⊥) → at (set l i v) j ≡ at l j
-    other j k = getD-set-other l i j v nan k
-
-    here : at (set l i v) i ≡ v
-    here = let s = r .same in getD-set-same l i v nan (omega arith)
-
-    one : (j : ℕ) → j < i + 1 → (b : Bool) → ltb j i ≡ b → at (set l i v) j ≡ f j
-    one j k true t = let q = ltb-true j i t in other j (λ z. omega arith) ∙ r .done j q
-    one j k false t = let q = ltb-false j i t in let z : j ≡ i = omega arith in ap (at (set l i v)) z ∙ here ∙ e ∙ ap f (sym z)
+step f old l i v r h e = record {
+  same = length-set l i v ∙ r .same;
+  done = front-more nan f l i v (let s = r .same in omega arith) e (r .done);
+  rest = λ j k. getD-set-other l i j v nan (λ (q : j ≡ i). omega arith) ∙ r .rest j (omega arith);
+}
 
 pub end : (f : ℕ → Float) (old l : List Float) (i n : ℕ) → Filling i f old l → n ≤ i → n ≤ length old → Row n f l
 end f old l i n r h k = let s = r .same in record { long = omega arith; holds = λ j q. r .done j (omega arith) }

@@ -2,10 +2,11 @@
 ghost use mathlib.Core.Path.{_≡_};
 ghost use Prim.Native.Nat.{_≤_, _<_};
 ghost use lib.ListN.{length};
+ghost use Rattle.noise_tables.specs.Row.{Flags};
 ghost use Rattle.noise_tables.specs.Places.{Noted};
 ghost use Rattle.cave_coords.specs.Coords.{coordOf};
 ghost use Rattle.terrain.specs.World.{Near};
-ghost use Rattle.ravines.specs.Cuts.{cutAt, CutTo, Cuts};
+ghost use Rattle.ravines.specs.Cuts.{cutAt, Cuts};
 use noise_rows::fbm_row;
 use terrain::cave::ravine_with;
 use terrain::world::Frame;
@@ -14,7 +15,7 @@ use words::num::of_i32;
 
 fn cut_row(f: Frame, z: f32, vals: &[f32], cuts: &mut [bool])
     requires { ⌜ Near f × (f .size ≤ length (now vals)) × (f .size ≤ length (now cuts)) ⌝ }
-    ensures { λ _. ⌜ CutTo (f .size) (cutAt f z (now (vals .entry))) (now (cuts .exit)) ⌝ }
+    ensures { λ _. ⌜ Flags (f .size) (cutAt f z (now (vals .entry))) (now (cuts .exit)) ⌝ }
 {
     let n = f.size;
     let mut i = 0;

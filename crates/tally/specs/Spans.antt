@@ -201,7 +201,8 @@ counts-window w c t e =
     ∙ sym (span-add (w * 8192) 8192 (idCount c) (idCount c))
     ∙ ap (λ (k : ℕ). span 0 k (idCount c) (idCount c)) (let q : w * 8192 + 8192 ≡ (w + 1) * 8192 = omega arith in q)
 
-pub window-length : (w : ℕ) (c t : List ℕ) → t ≡ idTable (w * 8192) c → length (span 0 (w * 8192) (idCount c) (λ (v : ℕ). v)) + length (windowIds (w * 8192) t) ≡ length (span 0 ((w + 1) * 8192) (idCount c) (λ (v : ℕ). v))
+pub window-length : (w : ℕ) (c t : List ℕ) → t ≡ idTable (w * 8192) c
+    → length (span 0 (w * 8192) (idCount c) (λ (v : ℕ). v)) + length (windowIds (w * 8192) t) ≡ length (span 0 ((w + 1) * 8192) (idCount c) (λ (v : ℕ). v))
 window-length w c t e = sym (length-append (span 0 (w * 8192) (idCount c) (λ (v : ℕ). v)) (windowIds (w * 8192) t)) ∙ ap length (ids-window w c t e)
 
 pub window-same : (b : ℕ) (t : List ℕ) → length (windowCounts b t) ≡ length (windowIds b t)

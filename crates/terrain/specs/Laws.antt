@@ -129,7 +129,8 @@ base-solid w t wx wy wz e =
     rw (d .0, d .1) (select-block-solid (biomeNumbered (topAt w wx wz .biome)) wy (pos (heightAt w wx wz)) (w .«sea_level») .0)
 
 -- a cell of the base is that of its place in the world
-pub base-at : (w : World) (o : Frame) (x y z : ℕ) → x < o .size → y < o .size → z < o .size → getD (baseCells w o) (cellIndex (o .size) x y z) 0 ≡ baseCell w (o .ox +ℤ pos x) (o .oy +ℤ pos y) (o .oz +ℤ pos z)
+pub base-at : (w : World) (o : Frame) (x y z : ℕ) → x < o .size → y < o .size → z < o .size
+    → getD (baseCells w o) (cellIndex (o .size) x y z) 0 ≡ baseCell w (o .ox +ℤ pos x) (o .oy +ℤ pos y) (o .oz +ℤ pos z)
 unfolding baseCells baseNumbered
 base-at w o x y z hx hy hz =
     tab-at _ (baseNumbered w o) (cellIndex (o .size) x y z) (index-lt (o .size) x y z hx hy hz)

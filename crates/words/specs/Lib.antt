@@ -2,3 +2,4 @@ pub mod Wrap
 pub mod Modulo
 pub mod Num
 pub mod Laws
+pub mod Front

@@ -9,12 +9,13 @@ use mir.Syntax.{w32}
 use mir.ValLaws.{toZ-pos}
 use Rattle.column.specs.Floats.{real}
 use Rattle.noise_tables.specs.Row.{at}
-use Rattle.hollow.specs.Fields.{hollowOf, judgedAt, Judged, judged-none, judged-more}
+use Rattle.hollow.specs.Fields.{hollowOf, judgedAt}
+use Rattle.noise_tables.specs.Row.{Flags, flags-none, flags-more}
 use Rattle.hollow.proofs.judge.Statement.{statement}
 use Rattle.hollow.proofs.judge.Tie as tie
 
 abbrev Inv-loop : tie.InvT-loop
-Inv-loop y k n heights cuts a b c flags₀ i₀ flags i = (i ≤ n) × (length flags ≡ length flags₀) × Judged y k i heights cuts a b c flags
+Inv-loop y k n heights cuts a b c flags₀ i₀ flags i = (i ≤ n) × (length flags ≡ length flags₀) × Flags i (judgedAt y k heights cuts a b c) flags
 
 abbrev μ-loop : tie.MeasureT-loop
 μ-loop y k n heights cuts a b c flags₀ i₀ flags i = n - i
@@ -22,7 +23,7 @@ abbrev μ-loop : tie.MeasureT-loop
 loop-holds : tie.Need-loop-holds Inv-loop μ-loop
 loop-holds c =
     let a = c .before .before .before .before .before .before .args in
-    (omega arith, refl, judged-none (a .y) (a .k) (a .heights .now) (a .cuts .now) (a .a .now) (a .b .now) (a .c .now) (a .flags .now))
+    (omega arith, refl, flags-none (judgedAt (a .y) (a .k) (a .heights .now) (a .cuts .now) (a .a .now) (a .b .now) (a .c .now)) (a .flags .now))
 
 add-h : tie.Need-add-h Inv-loop μ-loop
 add-h c =
@@ -280,7 +281,7 @@ loop-again c =
     let r = c .before .before .of-i32 .ensures ∙ ap real (toZ-pos w32 x (omega arith)) in
     let v =
     c .hollow-at .ensures ∙ ap (λ (q : Float). hollowOf (at (a .a .now) i) (at (a .b .now) i) (at (a .c .now) i) (a .y) q (getD (a .cuts .now) i false)) r in
-    (omega arith, length-set (l .flags) i _ ∙ g, judged-more (a .y) (a .k) (a .heights .now) (a .cuts .now) (a .a .now) (a .b .now) (a .c .now) i (l .flags) _ (omega arith) v (l .inv .2))
+    (omega arith, length-set (l .flags) i _ ∙ g, flags-more i (judgedAt (a .y) (a .k) (a .heights .now) (a .cuts .now) (a .a .now) (a .b .now) (a .c .now)) (l .flags) _ (omega arith) v (l .inv .2))
 
 same-length : tie.Need-same-length Inv-loop μ-loop
 same-length c = c .before .loop .inv .1

@@ -8,21 +8,21 @@ use lib.ListN.{length, length-set}
 use lib.Signed.{mag}
 use mir.Syntax.{w32}
 use Rattle.words.specs.Laws.{read}
-use Rattle.noise_tables.specs.Row.{at}
+use Rattle.noise_tables.specs.Row.{at, Flags, flags-none, flags-more}
 use Rattle.terrain.proofs.Signed.{back}
 use Rattle.terrain.specs.Caves.{ravineWith}
-use Rattle.ravines.specs.Cuts.{cutAt, CutTo, cut-none, cut-more}
+use Rattle.ravines.specs.Cuts.{cutAt}
 use Rattle.ravines.proofs.cut_row.Statement.{statement}
 use Rattle.ravines.proofs.cut_row.Tie as tie
 
 abbrev Inv-loop : tie.InvT-loop
-Inv-loop f z vals cuts₀ n i₀ cuts i = (i ≤ n) × (length cuts ≡ length cuts₀) × CutTo i (cutAt f z vals) cuts
+Inv-loop f z vals cuts₀ n i₀ cuts i = (i ≤ n) × (length cuts ≡ length cuts₀) × Flags i (cutAt f z vals) cuts
 
 abbrev μ-loop : tie.MeasureT-loop
 μ-loop f z vals cuts₀ n i₀ cuts i = n - i
 
 loop-holds : tie.Need-loop-holds Inv-loop μ-loop
-loop-holds c = let s = c .before .before in (omega arith, refl, cut-none (cutAt (s .args .f) (s .args .z) (s .args .vals .now)) (s .args .cuts .now))
+loop-holds c = let s = c .before .before in (omega arith, refl, flags-none (cutAt (s .args .f) (s .args .z) (s .args .vals .now)) (s .args .cuts .now))
 
 along-requires : tie.Need-along-requires Inv-loop μ-loop
 along-requires c κs =
@@ -94,7 +94,7 @@ loop-again c =
     read w32 (c .before .before .before .along .ok) (c .before .before .before .along .ensures ∙ ap (λ (u : ℤ). u +ℤ pos (l .i)) (back (s .args .f .ox) (s .pre .0 .x))) in
     let r =
     c .ravine-with .ensures ∙ ap (λ (u : Float). ravineWith (at (s .args .vals .now) (l .i)) u (s .args .z)) (c .before .of-i32 .ensures ∙ ap (ofInt binary32) w) in
-    (omega arith, length-set (l .cuts) (l .i) _ ∙ e, cut-more (l .i) (cutAt (s .args .f) (s .args .z) (s .args .vals .now)) (l .cuts) _ (omega arith) r (l .inv .2))
+    (omega arith, length-set (l .cuts) (l .i) _ ∙ e, flags-more (l .i) (cutAt (s .args .f) (s .args .z) (s .args .vals .now)) (l .cuts) _ (omega arith) r (l .inv .2))
 
 same-length : tie.Need-same-length Inv-loop μ-loop
 same-length c = c .before .loop .inv .1
@@ -105,7 +105,7 @@ returns c =
     let l = c .before .loop in
     let h : l .i ≤ s .args .f .size = l .inv .0 in
     let e : l .i ≡ s .args .f .size = (let t = c .loop-test .left in omega arith) in
-    subst (λ (u : ℕ). CutTo u (cutAt (s .args .f) (s .args .z) (s .args .vals .now)) (l .cuts)) e (l .inv .2)
+    subst (λ (u : ℕ). Flags u (cutAt (s .args .f) (s .args .z) (s .args .vals .now)) (l .cuts)) e (l .inv .2)
 
 pub cut-row-spec : {M : Type 1} → statement M
 cut-row-spec =

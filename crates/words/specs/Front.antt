@@ -1,0 +1,23 @@
+-- Lists that are filled from the front. Assumes nothing.
+use mathlib.Core.Path.{_≡_, refl, sym, ap, _∙_}
+use mathlib.Core.List.{List}
+use mathlib.Core.Bool.{Bool, true, false}
+use Prim.Native.Nat.{ℕ, _+_, _<_}
+use native.Mathlib.Omega.{arith}
+use lib.Dec.{ltb}
+use lib.ListN.{length, getD, set}
+use lib.Seq.{getD-set-same, getD-set-other}
+use borrow.Author.Tests.{ltb-true, ltb-false}
+
+-- the first n places hold g, and then place n too
+pub front-more : {A : Type 0} (d : A) (g : ℕ → A) (l : List A) (n : ℕ) (v : A) → n < length l → v ≡ g n → ((i : ℕ) → i < n → getD l i d ≡ g i)
+    → (i : ℕ) → i < n + 1 → getD (set l n v) i d ≡ g i
+front-more d g l n v h e before i k = here (ltb i n) refl
+  where
+    here : (t : Bool) → ltb i n ≡ t → getD (set l n v) i d ≡ g i
+    here true t =
+        let m = ltb-true i n t in
+        getD-set-other l n i v d (λ (q : i ≡ n). omega arith) ∙ before i m
+    here false t =
+        let m : i ≡ n = (let q = ltb-false i n t in omega arith) in
+        ap (λ (u : ℕ). getD (set l n v) u d) m ∙ getD-set-same l n v d h ∙ e ∙ ap g (sym m)
