@@ -189,8 +189,10 @@ fn grounds(near: Option<&Native>) -> Vec<Workload<'_>> {
         ));
         all.push(ground("at the surface", at(top), times, near));
         all.push(ground("sky inside the world", at(255 / n), times, near));
-        all.push(ground("far above", at(4096 / n + 3), times, near));
-        all.push(ground("far below", at(-4096 / n), times, near));
+        // One call is over in some microseconds: by itself it tells whether the lent buffer was still
+        // in the cache, so there are sixteen of any size.
+        all.push(ground("far above", at(4096 / n + 3), 16, near));
+        all.push(ground("far below", at(-4096 / n), 16, near));
     }
     all
 }
