@@ -32,6 +32,7 @@ use Rattle.calls.specs.declared.Reply.{Reply}
 use Rattle.reopen.proofs.Numbers.{header-back}
 use Rattle.recovery.specs.Model.{Call, Model, Ran, modelSize, modelFresh, left, askedBy, modelEdit, modelUndo, modelStep, modelRun, modelReplies}
 use Rattle.recovery.specs.Model as M
+use Rattle.recovery.specs.Asks.{set-same, column-same, batch-same}
 
 -- ---- the call that a line says
 
@@ -61,11 +62,13 @@ some-line [] h = absurd (omega arith)
 some-line (g ∷ gs) h = refl
 
 asked : (size : ℕ) (e : Edit) (p : EditOk size e) → askedBy size (callOf size (edits e) p) ≡ asks e
-unfolding askedBy setAsks columnAsks batchAsks
-asked size (set x y z id) p = rw (in-all size x y z (p .x) (p .y) (p .z))
-asked size (column x z height id) p = rw (lt-ltb x size (p .x), lt-ltb z size (p .z), clip-same height size (p .height))
+unfolding setAsks columnAsks batchAsks
+asked size (set x y z id) p = set-same size x y z id (p .id) ∙ rw (in-all size x y z (p .x) (p .y) (p .z))
+asked size (column x z height id) p =
+    column-same size x z height id (p .id) ∙ rw (lt-ltb x size (p .x), lt-ltb z size (p .z), clip-same height size (p .height))
 asked size (batch gs) p =
-    rw (batch-given size gs (p .inside), batch-args size gs (p .inside), le-leb (length gs) 16 (p .most)) (some-line gs (p .some))
+    batch-same size (batchArgs gs)
+    ∙ rw (batch-given size gs (p .inside), batch-args size gs (p .inside), le-leb (length gs) 16 (p .most)) (some-line gs (p .some))
 
 -- ---- one line
 
@@ -196,10 +199,12 @@ accepted-is-written s g ls h b borrowed e f l q c =
 
 -- ---- what reopening accepts
 
--- the settings and the place are the first line's, and the journal is one that its writer would write
+-- the settings and the place are the first line's and within the limits, so that a session with them can be begun, and the journal is one that its
+-- writer would write
 pub record AsWritten (s : List ℕ) (r : Session) (borrowed : ℕ) : Type 0 where
   pub first : Header
   pub standing : Active
+  pub limits : limitRefusal first ≡ 0
   pub config : r .config ≡ configOf first
   pub place : r .pos ≡ posOf first
   pub written : Accepted s first standing borrowed
@@ -219,6 +224,7 @@ by-lines c s used loose many trailing borrowed r g ls h (read b) e f l w q a =
     record {
       first = h;
       standing = b;
+      limits = l;
       config = sym (ap (λ (x : Session). x .config) y);
       place = sym (ap (λ (x : Session). x .pos) y);
       written = accepted-is-written s g ls h b borrowed e f l q w;

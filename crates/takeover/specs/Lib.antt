@@ -1,3 +1,5 @@
 pub mod Contracts
+pub mod Demand
 pub mod Theorem
+pub mod Witness
 pub mod Accepted
