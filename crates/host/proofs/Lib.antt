@@ -1,1 +1,2 @@
 mod Thin
+mod Forms

@@ -47,19 +47,20 @@ ran (undo κs c l p) = step M.undo (gave c) l (ran p)
 ran (form k o l p) = step k o l (ran p)
 
 -- the same of the state after n calls
-after-step : {t : Tablet} {ks : List Call} (n : ℕ) (k : Call) (o : Outcome) (u : Tablet) → o ≡ does t k → u ≡ run (leaves o) (take n ks) → u ≡ run t (take (suc n) (k ∷ ks))
+after-step : (t : Tablet) (ks : List Call) (n : ℕ) (k : Call) (o : Outcome) (u : Tablet)
+    → o ≡ does t k → u ≡ run (leaves o) (take n ks) → u ≡ run t (take (suc n) (k ∷ ks))
 unfolding run
-after-step {ks = ks} n k o u l e = e ∙ ap (λ (p : Outcome). run (leaves p) (take n ks)) l
+after-step t ks n k o u l e = e ∙ ap (λ (p : Outcome). run (leaves p) (take n ks)) l
 
 after-ran : {t u : Tablet} {ks : List Call} {rs : List Reply} (n : ℕ) (made : Made t ks rs u) → after n made ≡ run t (take n ks)
 unfolding run does
 after-ran zero made = refl
 after-ran (suc n) none = refl
-after-ran (suc n) (set κs c x y z id h l p) = after-step n (M.set x y z id h) (gave c) (after n p) l (after-ran n p)
-after-ran (suc n) (column κs c x z height id h l p) = after-step n (M.column x z height id h) (gave c) (after n p) l (after-ran n p)
-after-ran (suc n) (batch κs c edits l p) = after-step n (M.batch (now edits)) (gave c) (after n p) l (after-ran n p)
-after-ran (suc n) (undo κs c l p) = after-step n M.undo (gave c) (after n p) l (after-ran n p)
-after-ran (suc n) (form k o l p) = after-step n k o (after n p) l (after-ran n p)
+after-ran (suc n) (set κs c x y z id h l p) = after-step _ _ n (M.set x y z id h) (gave c) (after n p) l (after-ran n p)
+after-ran (suc n) (column κs c x z height id h l p) = after-step _ _ n (M.column x z height id h) (gave c) (after n p) l (after-ran n p)
+after-ran (suc n) (batch κs c edits l p) = after-step _ _ n (M.batch (now edits)) (gave c) (after n p) l (after-ran n p)
+after-ran (suc n) (undo κs c l p) = after-step _ _ n M.undo (gave c) (after n p) l (after-ran n p)
+after-ran (suc n) (form k o l p) = after-step _ _ n k o (after n p) l (after-ran n p)
 
 -- ---- the fresh session
 
@@ -140,17 +141,19 @@ module _ (f : First) {calls : List Call} {rs : List Reply} {t : Tablet} (made : 
               let from : run (resumes o (k .session)) more ≡ run (tablet (k .session) (k .cells) (now (o .journal))) more =
               ap (λ (w : Tablet). run w more) second in
               let to : run (after (k .count) made) more ≡ run (run (began f) (take (k .count) calls)) more =
-              ap (λ (w : Tablet). run w more) (after-ran (k .count) made) in
-              (x .answers
-              ∙ ap (λ (w : Tablet). replies w more) second
-              ∙ p .0
-              ∙ sym (y .answers ∙ ap (λ (w : Tablet). replies w more) (after-ran (k .count) made)),
-              subst (λ (w : Tablet). Alike u w) (sym (y .last ∙ to)) (subst (λ (w : Tablet). Alike w (run (run (began f) (take (k .count) calls)) more)) (sym (x .last ∙ from)) (p .1))));
+              ap (λ (w : Tablet). run w more) (after-ran (k .count) made) in (
+                x .answers
+                    ∙ ap (λ (w : Tablet). replies w more) second
+                    ∙ p .0
+                    ∙ sym (y .answers ∙ ap (λ (w : Tablet). replies w more) (after-ran (k .count) made)),
+                subst (λ (w : Tablet). Alike u w) (sym (y .last ∙ to))
+                    (subst (λ (w : Tablet). Alike w (run (run (began f) (take (k .count) calls)) more)) (sym (x .last ∙ from)) (p .1)),
+              ));
         }
 
 -- Demand 3, undivided.
 pub takeover : TakeoverTheorem
-takeover f {calls} {rs} {t} made = record {
+takeover f calls rs t made = record {
   each = λ n. at f made (λ (u : Tablet). AsModel (modelRun (model f) (take n calls)) u) n (as-machine f (take n calls));
   last = subst (λ (u : Tablet). AsModel (modelRun (model f) calls) u) (sym (ran made .last)) (as-machine f calls);
   laid = λ n. at f made Laid n (laid-so f (take n calls));
