@@ -1,9 +1,10 @@
-use Rattle.report.specs.Laws.{text-within}
-use lib.Seq.{length-take-le}
-use lib.ListN.{length}
-use Prim.Native.Nat.{_≤_}
+-- `program::print_map` is safe and ends. The text lies within its buffer. Assumes nothing.
 use mathlib.Core.Path.{sym}
+use Prim.Native.Nat.{_≤_}
+use lib.ListN.{length}
+use lib.Seq.{length-take-le}
 use borrow.Author.Needs.{needs}
+use Rattle.report.specs.Laws.{text-within}
 use Rattle.program.proofs.print_map.Statement.{statement}
 use Rattle.program.proofs.print_map.Tie as tie
 
@@ -24,21 +25,34 @@ report-requires c κs = search needs
 
 -- the text lies within its buffer
 module _ (c : tie.After-report) where
+  abbrev start : tie.Start
+  start = c .before .before .before .before .before .before
+
   within : c .report .result ≤ length (c .report .last .1 .1 .1 .0)
-  within = text-within (c .before .before .before .before .before .before .args .journal .now) (length (c .before .before .before .before .before .before .args .journal .now)) _ _ _ _ _ (c .report .ensures) (c .report .kept .1 .1 .1 .0)
+  within =
+      text-within (start .args .journal .now) (length (start .args .journal .now)) _ _ _ _ _
+      (c .report .ensures)
+      (c .report .kept .1 .1 .1 .0)
 
 array-share-prefix-text : tie.Need-array-share-prefix-text
 array-share-prefix-text c = within (c .before .before)
 
-slice-aggregate-write-all : tie.Need-slice-aggregate-write-all
-slice-aggregate-write-all c =
-    sym (length-take-le (c .before .before .before .report .result) (c .before .before .before .report .last .1 .1 .1 .0) (within (c .before .before .before)))
+slice-aggregate-write-text : tie.Need-slice-aggregate-write-text
+slice-aggregate-write-text c =
+    let d = c .before .before .before in
+    sym (length-take-le (d .report .result) (d .report .last .1 .1 .1 .0) (within d))
 
-write-all-requires : tie.Need-write-all-requires
-write-all-requires c κs = search needs
+write-text-requires : tie.Need-write-text-requires
+write-text-requires c κs = search needs
+
+tell-unwritten-requires : tie.Need-tell-unwritten-requires
+tell-unwritten-requires c κs = search needs
 
 returns : tie.Need-returns
 returns c = search needs
+
+returns-2 : tie.Need-returns-2
+returns-2 c = search needs
 
 pub print-map-spec : {M : Type 1} → statement M
 print-map-spec =
@@ -50,6 +64,8 @@ print-map-spec =
     slice-aggregate-report-2
     report-requires
     array-share-prefix-text
-    slice-aggregate-write-all
-    write-all-requires
-    returns)
+    slice-aggregate-write-text
+    write-text-requires
+    tell-unwritten-requires
+    returns
+    returns-2)
