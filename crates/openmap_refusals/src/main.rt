@@ -13,8 +13,8 @@ fn main() {
     program::print_map(b"G\t65535\t-4096\t4096\t64\t15624\t-15626\t0\nX\n");
     // A size above 16, and a later line that is bad: the size comes first.
     program::print_map(b"G\t0\t4096\t256\t17\t0\t128\t0\nX\n");
-    // A first line without its LF.
-    program::print_map(b"G\t0\t4096\t256\t2\t0\t128\t0");
+    // A first line without its LF; it has six numbers, and its size is off the limits: the LF comes first.
+    program::print_map(b"G\t0\t4096\t256\t65\t0\t128");
     // A first line of six numbers; its size is off the limits, too, and a later line is bad.
     program::print_map(b"G\t0\t4096\t256\t65\t0\t128\nX\n");
     // The third line's column is higher than the chunk.
