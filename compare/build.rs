@@ -1,5 +1,5 @@
-//! Links the product's static library, and says by `cfg` flags which parts it has.
-use std::{env, fs, path::Path};
+//! Links the product's static library, and says by `cfg` flags which parts it has; builds `faults.c`.
+use std::{env, fs, path::Path, process::Command};
 
 /// A part of the product, and the exported function that shows that it is there.
 const PARTS: [(&str, &str); 10] = [
@@ -34,6 +34,30 @@ fn main() {
             println!("cargo:rustc-cfg={flag}");
         }
     }
+    faults();
+}
+
+/// The library that fails reads and writes, by the compiler that rustc links with.
+fn faults() {
+    println!("cargo:rerun-if-changed=faults.c");
+    let library = Path::new(&env::var("OUT_DIR").expect("cargo names a folder")).join("faults.so");
+    let built = Command::new("cc")
+        .args([
+            "-std=c11",
+            "-pedantic",
+            "-Wall",
+            "-Wextra",
+            "-Werror",
+            "-O1",
+            "-shared",
+            "-fPIC",
+        ])
+        .args(["faults.c", "-o"])
+        .arg(&library)
+        .status()
+        .expect("cc runs");
+    assert!(built.success(), "cc does not build faults.c");
+    println!("cargo:rustc-env=FAULTS={}", library.display());
 }
 
 /// Whether the archive names the symbol: its table of symbols has each name, ended by a zero.

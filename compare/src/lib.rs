@@ -1,6 +1,7 @@
 //! Compares the product's static library with the Rust original, and times both.
 pub mod bare;
 pub mod chunk;
+pub mod faults;
 pub mod ffi;
 pub mod ground;
 pub mod journals;

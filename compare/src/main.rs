@@ -1,4 +1,4 @@
-//! Runs every comparison, or writes the lists for the gate.
+//! Runs every comparison, or only that of the program, or writes the lists for the gate.
 //! Exit status 0: no difference; 1: a difference.
 use compare::report::Report;
 use compare::{chunk, ground, noise, program, session, stack, vectors};
@@ -6,16 +6,18 @@ use std::process::ExitCode;
 
 fn main() -> ExitCode {
     let mut report = Report::default();
-    if std::env::args().nth(1).as_deref() == Some("vectors") {
-        vectors::write(&mut report);
-    } else {
-        noise::run(&mut report);
-        ground::run(&mut report);
-        chunk::run(&mut report);
-        session::run(&mut report);
-        stack::run(&mut report);
-        program::run(&mut report);
-        vectors::check(&mut report);
+    match std::env::args().nth(1).as_deref() {
+        Some("vectors") => vectors::write(&mut report),
+        Some("program") => program::run(&mut report),
+        _ => {
+            noise::run(&mut report);
+            ground::run(&mut report);
+            chunk::run(&mut report);
+            session::run(&mut report);
+            stack::run(&mut report);
+            program::run(&mut report);
+            vectors::check(&mut report);
+        }
     }
     if report.close() {
         ExitCode::SUCCESS

@@ -1,4 +1,6 @@
-//! The program that opens a map, against the model: what it prints for valid and damaged journals.
+//! The program that opens a map, against the model: what it prints for valid and damaged journals, and (`faults.rs`)
+//! where reads and writes fail.
+use crate::faults::{self, Program};
 use crate::journals;
 use crate::model;
 use crate::report::Report;
@@ -39,7 +41,7 @@ fn large(rng: &mut Rng) -> Vec<u8> {
 }
 
 /// The longest text, from the most edits: each column of a chunk of size 16 has an id of five digits.
-fn longest() -> Vec<u8> {
+pub fn longest() -> Vec<u8> {
     let mut text = String::from("G\t0\t24\t256\t16\t0\t0\t0\n");
     for k in 0..256 {
         text.push_str(&format!("C\t{}\t{}\t16\t{}\n", k % 16, k / 16, 65_280 + k));
@@ -48,7 +50,7 @@ fn longest() -> Vec<u8> {
 }
 
 /// Journals for the program: the held bytes are all that it is given.
-fn input(rng: &mut Rng, run: u64) -> Vec<u8> {
+pub fn input(rng: &mut Rng, run: u64) -> Vec<u8> {
     match run {
         0 => return Vec::new(),
         1 => return longest(),
@@ -89,5 +91,13 @@ pub fn run(report: &mut Report) {
             Err(e) => report.fail(format!("openmap does not run: {e}")),
         }
     }
-    println!("program: {RUNS} journals");
+    let program = Program {
+        path: program,
+        words: &[],
+    };
+    faults::compare(report, &program, faults::LISTS);
+    println!(
+        "program: {RUNS} journals, {} lists of failing, interrupted and short calls",
+        faults::LISTS
+    );
 }

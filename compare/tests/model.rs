@@ -1,9 +1,12 @@
 //! The model against 01's own example and against the plain machine, and the session driver on
-//! the model itself and on libraries with a slip each: it must find every one of them.
+//! the model itself and on libraries with a slip each: it must find every one of them. The checks of
+//! failing reads and writes, likewise, on a program made of the model.
+use compare::faults::{self, Program};
 use compare::ffi::Site;
 use compare::model::{self, Call, Lent, Record, Refusal};
 use compare::report::Report;
 use compare::session::{compare, Amount, Calls};
+use std::path::Path;
 
 const SMALL: Amount = Amount {
     journals: 3000,
@@ -175,5 +178,39 @@ fn every_slip_is_found() {
     ];
     for (name, slip) in slips {
         assert!(differences(slip) > 0, "{name} was not found");
+    }
+}
+
+/// The differences that the checks of failing reads and writes find in a program with a slip.
+fn faults_found(slip: &str) -> u64 {
+    let mut report = Report::quiet();
+    let program = Program {
+        path: Path::new(env!("CARGO_BIN_EXE_double")),
+        words: &[slip],
+    };
+    faults::compare(&mut report, &program, 200);
+    report.differences
+}
+
+#[test]
+fn the_program_without_a_slip() {
+    assert_eq!(faults_found("none"), 0);
+}
+
+#[test]
+fn every_slip_of_the_program_is_found() {
+    let slips = [
+        "a failed read ends the input",
+        "a failed read after some bytes ends the input",
+        "a failed read is told and its bytes are opened",
+        "an interrupted read ends the input",
+        "an interrupted read fails",
+        "an interrupted read begins anew",
+        "a short write is taken for a whole one",
+        "an interrupted write fails",
+        "a failed write is not told",
+    ];
+    for slip in slips {
+        assert!(faults_found(slip) > 0, "{slip}: not found");
     }
 }
