@@ -1,5 +1,6 @@
+# shellcheck shell=bash
 # What compare/run and compare/bench share: finds the tools and folders, and builds the product's
-# archive. Sourced, not run. Exit status 2: something is missing.
+# archive, the program and the driver. Sourced, not run. Exit status 2: something is missing.
 compare=$(cd "$(dirname "${BASH_SOURCE[0]}")" && pwd)
 root=$(dirname "$compare")
 
@@ -25,38 +26,51 @@ find_tools() {
     [ -n "${PRODUCT_LIB:-}" ] || command -v rt > /dev/null || missing "no rt: the product's archive is built by 'hosts/build'"
 }
 
+# The log of a step, in a folder that is there.
+log_of() {
+    mkdir -p "$compare/target" || missing "no folder '$compare/target' can be made"
+    echo "$compare/target/$1.log"
+}
+
+# A step that failed: the end of its log, and where the whole is.
+failed() {
+    tail -n 20 "$2" >&2
+    missing "'$1' failed: $2 has it whole"
+}
+
 # Builds the archive, unless PRODUCT_LIB names one that is there already.
 build_product() {
     if [ -z "${PRODUCT_LIB:-}" ]; then
-        local log=$compare/target/staticlib.log
-        mkdir -p "$compare/target"
-        "$root/hosts/build" > "$log" 2>&1 || {
-            tail -n 20 "$log" >&2
-            missing "'hosts/build' failed: $log has it whole"
-        }
+        local log
+        log=$(log_of staticlib) || exit 2
+        "$root/hosts/build" > "$log" 2>&1 || failed hosts/build "$log"
         PRODUCT_LIB=$root/target/host/lib/libperillahinge.a
     fi
-    if [ -d "$root/crates/openmap" ] && [ -z "${OPENMAP:-}" ]; then
-        (cd "$root" && rt check openmap) > "$compare/target/openmap.log" 2>&1 ||
-            missing "'rt check openmap' failed: $compare/target/openmap.log has it whole"
-        OPENMAP=$root/target/bin/openmap
-    fi
-    export OPENMAP=${OPENMAP:-}
     [ -f "$PRODUCT_LIB" ] || missing "no archive '$PRODUCT_LIB'"
+    PRODUCT_LIB=$(realpath "$PRODUCT_LIB")
     export PRODUCT_LIB
 }
 
-# Builds and runs the example hosts; a wrong answer of theirs is a difference.
+# Proves and builds the program that opens a map, unless OPENMAP names one that is there already.
+build_openmap() {
+    if [ -z "${OPENMAP:-}" ]; then
+        local log
+        command -v rt > /dev/null || missing "no rt: it builds the program, unless OPENMAP names one"
+        log=$(log_of openmap) || exit 2
+        (cd "$root" && rt check openmap) > "$log" 2>&1 || failed 'rt check openmap' "$log"
+        OPENMAP=$root/target/bin/openmap
+    fi
+    [ -x "$OPENMAP" ] || missing "no program '$OPENMAP'"
+    OPENMAP=$(realpath "$OPENMAP")
+    export OPENMAP
+}
+
+# Builds and runs the example hosts: 0 where all is right, 1 where a host failed, which is a difference.
 run_hosts() {
-    status=0
-    hosts_failed=0
     "$root/hosts/run" "$PRODUCT_LIB"
     case $? in
-    0) ;;
-    1)
-        status=1
-        hosts_failed=1
-        ;;
+    0) return 0 ;;
+    1) return 1 ;;
     *) missing "an example host cannot be built" ;;
     esac
 }
