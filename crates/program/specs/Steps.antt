@@ -67,7 +67,8 @@ pub record ReadOn (before : List ℕ) (at : ℕ) (s : Step) (after : List ℕ) :
   pub length-stays : length after ≡ length before
   pub earlier-stay : take at after ≡ take at before
 
--- a reading whose last call left it so, with `at` bytes read, is whole only at the end of the input
+-- 01, Beside the chain: "A program reads a journal on standard input": one that was not read to its end is none. With `at`
+-- bytes read, by how the last call left the reading
 abbrev pub readingOf : ℕ → Step → Reading
 readingOf at (At next) = Reading.Failed
 readingOf at End = Whole at
