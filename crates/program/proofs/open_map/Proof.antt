@@ -3,8 +3,8 @@ use mathlib.Core.Path.{sym, subst}
 use Prim.Native.Nat.{ℕ, _≤_}
 use lib.ListN.{length}
 use lib.Seq.{length-take-le}
-use Rattle.program.specs.declared.Reading.{Reading}
-use Rattle.program.specs.Steps.{Held}
+use Rattle.openmap_streams.specs.declared.Reading.{Reading}
+use Rattle.openmap_streams.specs.Steps.{Held}
 use borrow.Author.Needs.{needs}
 use Rattle.program.proofs.open_map.Statement.{statement}
 use Rattle.program.proofs.open_map.Tie as tie

@@ -1,12 +1,12 @@
--- `program::write_text` is safe and ends: the measure is the turns that are left. Assumes nothing.
+-- `openmap_streams::write_text` is safe and ends: the measure is the turns that are left. Assumes nothing.
 use mathlib.Core.Path.{subst}
 use Prim.Native.Nat.{_≤_}
 use lib.ListN.{length}
 use borrow.Author.Needs.{needs}
-use Rattle.program.specs.Steps.{Reaches}
+use Rattle.openmap_streams.specs.Steps.{Reaches}
 use native.Mathlib.Omega.{arith}
-use Rattle.program.proofs.write_text.Statement.{statement}
-use Rattle.program.proofs.write_text.Tie as tie
+use Rattle.openmap_streams.proofs.write_text.Statement.{statement}
+use Rattle.openmap_streams.proofs.write_text.Tie as tie
 
 abbrev Inv-loop : tie.InvT-loop
 Inv-loop text at₀ turns₀ at turns = at ≤ length text

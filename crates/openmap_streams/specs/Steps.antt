@@ -8,10 +8,10 @@ use lib.IntN.{ℤ, pos, negsuc}
 use lib.Dec.{eqb}
 use native.Mathlib.Omega.{arith}
 use Rattle.libc.specs.Io.{Moved}
-use Rattle.program.specs.declared.Step.{Step}
-use Rattle.program.specs.declared.Step.the-variants.{At, End, Failed}
-use Rattle.program.specs.declared.Reading.{Reading}
-use Rattle.program.specs.declared.Reading.the-variants.{Whole}
+use Rattle.openmap_streams.specs.declared.Step.{Step}
+use Rattle.openmap_streams.specs.declared.Step.the-variants.{At, End, Failed}
+use Rattle.openmap_streams.specs.declared.Reading.{Reading}
+use Rattle.openmap_streams.specs.declared.Reading.the-variants.{Whole}
 
 -- errno's number of a call that a signal interrupted before it moved a byte
 abbrev pub interrupted : ℤ → Bool

@@ -1,9 +1,9 @@
--- `program::reading_by` meets its contract. By the step. Assumes nothing.
+-- `openmap_streams::reading_by` meets its contract. By the step. Assumes nothing.
 use mathlib.Core.Path.{sym, ap}
 use borrow.Author.Needs.{needs}
-use Rattle.program.specs.Steps.{readingOf}
-use Rattle.program.proofs.reading_by.Statement.{statement}
-use Rattle.program.proofs.reading_by.Tie as tie
+use Rattle.openmap_streams.specs.Steps.{readingOf}
+use Rattle.openmap_streams.proofs.reading_by.Statement.{statement}
+use Rattle.openmap_streams.proofs.reading_by.Tie as tie
 
 enum-told : tie.Need-enum-told
 enum-told c = search needs

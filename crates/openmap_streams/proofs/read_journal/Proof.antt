@@ -1,13 +1,13 @@
--- `program::read_journal` meets its contract and ends: the measure is the turns that are left. Assumes nothing.
+-- `openmap_streams::read_journal` meets its contract and ends: the measure is the turns that are left. Assumes nothing.
 use mathlib.Core.Path.{_≡_, sym, subst}
 use Prim.Native.Nat.{_≤_}
 use native.Mathlib.Omega.{arith}
 use lib.ListN.{length}
 use borrow.Author.Needs.{needs}
-use Rattle.program.specs.declared.Reading.{Reading}
-use Rattle.program.specs.Steps.{Reaches, Held, reading-held}
-use Rattle.program.proofs.read_journal.Statement.{statement}
-use Rattle.program.proofs.read_journal.Tie as tie
+use Rattle.openmap_streams.specs.declared.Reading.{Reading}
+use Rattle.openmap_streams.specs.Steps.{Reaches, Held, reading-held}
+use Rattle.openmap_streams.proofs.read_journal.Statement.{statement}
+use Rattle.openmap_streams.proofs.read_journal.Tie as tie
 
 abbrev Inv-loop : tie.InvT-loop
 Inv-loop journal₀ at₀ turns₀ journal at turns = (at ≤ length journal) × (length journal ≡ length journal₀)

@@ -1,4 +1,4 @@
--- `program::step_by` meets its contract. By the answer's sign, then by errno or by the count. Assumes nothing.
+-- `openmap_streams::step_by` meets its contract. By the answer's sign, then by errno or by the count. Assumes nothing.
 use mathlib.Core.Path.{_≡_, refl, sym, ap, _∙_}
 use mathlib.Core.Bool.{true, false}
 use Prim.Native.Nat.{ℕ, zero, suc, _+_}
@@ -14,11 +14,11 @@ use borrow.Author.Tests.{ltb-true, ne-eqb}
 use borrow.Author.Needs.{needs}
 use Rattle.libc.specs.Io.{Moved}
 use Rattle.io.specs.Counts.{clamped}
-use Rattle.program.specs.declared.Step.{Step}
-use Rattle.program.specs.declared.Step.the-variants.{At}
-use Rattle.program.specs.Steps.{interrupted, broken, went, stepOf}
-use Rattle.program.proofs.step_by.Statement.{statement}
-use Rattle.program.proofs.step_by.Tie as tie
+use Rattle.openmap_streams.specs.declared.Step.{Step}
+use Rattle.openmap_streams.specs.declared.Step.the-variants.{At}
+use Rattle.openmap_streams.specs.Steps.{interrupted, broken, went, stepOf}
+use Rattle.openmap_streams.proofs.step_by.Statement.{statement}
+use Rattle.openmap_streams.proofs.step_by.Tie as tie
 
 -- a negative answer
 below-0 : (at : ℕ) (z error : ℤ) → ltZ z (pos 0) ≡ true → stepOf at z error ≡ broken at (interrupted error)

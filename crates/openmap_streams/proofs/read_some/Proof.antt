@@ -1,4 +1,4 @@
--- `program::read_some` meets its contract. The part ends where the buffer does, and what lies before it is not lent. Assumes nothing.
+-- `openmap_streams::read_some` meets its contract. The part ends where the buffer does, and what lies before it is not lent. Assumes nothing.
 use mathlib.Core.Path.{_≡_, sym, _∙_, subst}
 use Prim.Native.Nat.{ℕ, _-_}
 use native.Mathlib.Omega.{arith}
@@ -8,9 +8,9 @@ use mir.ValLaws.{toZ-ofZ}
 use borrow.Author.Needs.{needs}
 use borrow.Rule.Slice.PartMut.{take-put}
 use Rattle.libc.specs.Io.{Moved}
-use Rattle.program.specs.Steps.{Reaches, step-reaches}
-use Rattle.program.proofs.read_some.Statement.{statement}
-use Rattle.program.proofs.read_some.Tie as tie
+use Rattle.openmap_streams.specs.Steps.{Reaches, step-reaches}
+use Rattle.openmap_streams.proofs.read_some.Statement.{statement}
+use Rattle.openmap_streams.proofs.read_some.Tie as tie
 
 sub-part : tie.Need-sub-part
 sub-part c = search needs

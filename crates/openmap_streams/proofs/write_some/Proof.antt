@@ -1,4 +1,4 @@
--- `program::write_some` meets its contract. The part ends where the text does. Assumes nothing.
+-- `openmap_streams::write_some` meets its contract. The part ends where the text does. Assumes nothing.
 use mathlib.Core.Path.{sym, subst}
 use Prim.Native.Nat.{ℕ, _-_}
 use native.Mathlib.Omega.{arith}
@@ -7,9 +7,9 @@ use borrow.Author.Needs.{needs}
 use mir.Syntax.{w64}
 use mir.ValLaws.{toZ-ofZ}
 use Rattle.libc.specs.Io.{Moved}
-use Rattle.program.specs.Steps.{Reaches, step-reaches}
-use Rattle.program.proofs.write_some.Statement.{statement}
-use Rattle.program.proofs.write_some.Tie as tie
+use Rattle.openmap_streams.specs.Steps.{Reaches, step-reaches}
+use Rattle.openmap_streams.proofs.write_some.Statement.{statement}
+use Rattle.openmap_streams.proofs.write_some.Tie as tie
 
 sub-part : tie.Need-sub-part
 sub-part c = search needs
