@@ -43,9 +43,9 @@ fn desert(depth: i64) -> u16
     ensures { λ r. ⌜ r ≡ desertBlock depth ⌝ }
 {
     match depth {
-        -9223372036854775808..=4 => SAND,
+        ..=4 => SAND,
         5..=8 => GRAVEL,
-        _ => STONE,
+        9.. => STONE,
     }
 }
 
@@ -53,10 +53,10 @@ fn mountain_top(wy: i32, height: i32) -> u16
     ensures { λ r. ⌜ r ≡ mountainTop wy height ⌝ }
 {
     match height {
-        -2147483648..=40 => STONE,
+        ..=40 => STONE,
         41..=55 => GRAVEL,
         56..=70 => { if snow_patch(wy, height) { SNOW } else { STONE } }
-        _ => SNOW,
+        71.. => SNOW,
     }
 }
 
@@ -64,8 +64,8 @@ fn mountain(depth: i64, wy: i32, height: i32) -> u16
     ensures { λ r. ⌜ r ≡ mountainBlock depth wy height ⌝ }
 {
     match depth {
-        -9223372036854775808..=2 => mountain_top(wy, height),
-        _ => STONE,
+        ..=2 => mountain_top(wy, height),
+        3.. => STONE,
     }
 }
 
@@ -84,9 +84,9 @@ fn forest(depth: i64, height: i32, sea_level: i32) -> u16
     ensures { λ r. ⌜ r ≡ forestBlock depth height «sea_level» ⌝ }
 {
     match depth {
-        -9223372036854775808..=1 => shore(height, sea_level),
+        ..=1 => shore(height, sea_level),
         2..=5 => DIRT,
-        _ => STONE,
+        6.. => STONE,
     }
 }
 
@@ -94,9 +94,9 @@ fn plains(depth: i64, height: i32, sea_level: i32) -> u16
     ensures { λ r. ⌜ r ≡ plainsBlock depth height «sea_level» ⌝ }
 {
     match depth {
-        -9223372036854775808..=1 => shore(height, sea_level),
+        ..=1 => shore(height, sea_level),
         2..=4 => DIRT,
-        _ => STONE,
+        5.. => STONE,
     }
 }
 
