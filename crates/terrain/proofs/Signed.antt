@@ -64,6 +64,8 @@ top-fits h k = subst (λ (u : ℤ). SFits w32 (u -ℤ pos 1)) (sym (toZ-pos w32 
 pub top-back : (h : ℕ) → h < 65536 → again (toZ w32 h -ℤ pos 1) ≡ pos h -ℤ pos 1
 top-back h k = toZ-ofZ w32 (toZ w32 h -ℤ pos 1) (top-fits h k) ∙ ap (λ (u : ℤ). u -ℤ pos 1) (toZ-pos w32 h (omega arith))
 
--- where caves may be
-pub gate : (wy : ℤ) (h : ℕ) (b : Bool) → SFits w32 wy → h < 65536 → (ltZ (pos 0) (again wy) && ltZ (again wy) (again (toZ w32 h -ℤ pos 1))) ≡ b → (ltZ (pos 0) wy && ltZ wy (pos h -ℤ pos 1)) ≡ b
-gate wy h b f k e = sym (ap₂ (λ (u v : ℤ). ltZ (pos 0) u && ltZ u v) (toZ-ofZ w32 wy f) (top-back h k)) ∙ e
+-- whether a cave is there, at a level that admits one
+pub gate : (wy : ℤ) (h : ℕ) (hollow b : Bool) → SFits w32 wy → h < 65536
+    → (ltZ (pos 0) (again wy) && ltZ (again wy) (again (toZ w32 h -ℤ pos 1)) && hollow) ≡ b
+    → (ltZ (pos 0) wy && ltZ wy (pos h -ℤ pos 1) && hollow) ≡ b
+gate wy h hollow b f k e = sym (ap₂ (λ (u v : ℤ). ltZ (pos 0) u && ltZ u v && hollow) (toZ-ofZ w32 wy f) (top-back h k)) ∙ e

@@ -87,8 +87,7 @@ either false x y p q = q
 
 ground-id : (t v : Bool) (b : Biome) (wy h sea : ℤ) → groundCell t v b wy h sea < 65536
 unfolding groundCell
-ground-id true v b wy h sea = either v 0 _ (omega arith) (select-block-solid b wy h sea .1)
-ground-id false v b wy h sea = select-block-solid b wy h sea .1
+ground-id t v b wy h sea = either (t && v) 0 _ (omega arith) (select-block-solid b wy h sea .1)
 
 cell-id : (t v : Bool) (b : Biome) (wy h sea : ℤ) → columnCell t v b wy h sea < 65536
 unfolding columnCell

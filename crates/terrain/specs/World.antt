@@ -14,7 +14,8 @@ use Rattle.terrain.specs.declared.world.World.{World}
 use Rattle.terrain.specs.declared.world.Frame.{Frame}
 use Rattle.terrain.specs.declared.world.Top.{Top}
 
--- settings within the limits: the greatest height is 1 to 4,095
+-- what laying asks of a world: a greatest height of 1 to 4,095, as the limits of the settings give it, and a sea level of at most
+-- 1,000,000 either way, where they give 4,096
 pub record Tall (w : World) : Type 0 where
   pub top : ℕ
   pub is : w .«max_height» ≡ pos top
@@ -53,10 +54,10 @@ topWith h b = record { height = h; biome = b }
 unfoldable pub topAt : World → ℤ → ℤ → Top
 topAt w wx wz = topWith (heightAt w wx wz) (biomeNumber (biomeAt w wx wz))
 
--- "Below height: caves only where 0 < wy < height − 1; otherwise the biome decides"; hollow says whether a cave is there
+-- "Below height: caves only where 0 < wy < height − 1; otherwise the biome decides"; level says whether the level admits a cave,
+-- hollow whether one is there
 unfoldable pub groundCell : Bool → Bool → Biome → ℤ → ℤ → ℤ → ℕ
-groundCell true hollow b wy h sea = cond hollow AIR (selectBlock b wy h sea)
-groundCell false hollow b wy h sea = selectBlock b wy h sea
+groundCell level hollow b wy h sea = cond (level && hollow) AIR (selectBlock b wy h sea)
 
 -- "At wy ≥ height: water (5) below sea level, even above the world's top; else air (0)."
 unfoldable pub columnCell : Bool → Bool → Biome → ℤ → ℤ → ℤ → ℕ

@@ -79,11 +79,8 @@ fn ground_cell(b: Biome, wy: i32, h: u16, sea_level: i32, hollow: bool) -> u16
     ensures { λ r. ⌜ r ≡ groundCell (ltZ (pos 0) wy && ltZ wy (pos h -ℤ pos 1)) hollow b wy (pos h) «sea_level» ⌝ }
 {
     let height = h as i32;
-    if (wy > 0) & (wy < height - 1) {
-        if hollow {
-            return AIR;
-        }
-        return select_block(b, wy, height, sea_level);
+    if (wy > 0) & (wy < height - 1) & hollow {
+        return AIR;
     }
     select_block(b, wy, height, sea_level)
 }

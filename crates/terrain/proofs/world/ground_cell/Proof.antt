@@ -20,7 +20,9 @@ sub-if1 c = top-fits (c .args .h) (c .fits .h .fits)
 
 returns : tie.Need-returns
 unfolding groundCell
-returns c = let s = c .before .before in rw (gate (s .args .wy) (s .args .h) true (s .fits .wy) (s .fits .h .fits) (c .before .if1 .taken), c .if2 .taken)
+returns c =
+    let s = c .before in
+    rw (gate (s .args .wy) (s .args .h) (s .args .hollow) true (s .fits .wy) (s .fits .h .fits) (c .if1 .taken))
 
 select-block-requires : tie.Need-select-block-requires
 select-block-requires c κs = search needs
@@ -28,28 +30,12 @@ select-block-requires c κs = search needs
 returns-2 : tie.Need-returns-2
 unfolding groundCell
 returns-2 c =
-    let s = c .before .before .before in
-    rw (gate (s .args .wy) (s .args .h) true (s .fits .wy) (s .fits .h .fits) (c .before .before .if1 .taken), c .before .if2 .left)
-    (c .select-block .ensures ∙ ap₃ (selectBlock (s .args .b)) (toZ-ofZ w32 (s .args .wy) (s .fits .wy)) (toZ-pos w32 (s .args .h) (let f = s .fits .h .fits in omega arith)) (toZ-ofZ w32 (s .args .sea-level) (s .fits .sea-level)))
-
-select-block-requires-2 : tie.Need-select-block-requires-2
-select-block-requires-2 c κs = search needs
-
-returns-3 : tie.Need-returns-3
-unfolding groundCell
-returns-3 c =
     let s = c .before .before in
-    rw (gate (s .args .wy) (s .args .h) false (s .fits .wy) (s .fits .h .fits) (c .before .if1 .left))
-    (c .select-block2 .ensures ∙ ap₃ (selectBlock (s .args .b)) (toZ-ofZ w32 (s .args .wy) (s .fits .wy)) (toZ-pos w32 (s .args .h) (let f = s .fits .h .fits in omega arith)) (toZ-ofZ w32 (s .args .sea-level) (s .fits .sea-level)))
+    let high = toZ-pos w32 (s .args .h) (let f = s .fits .h .fits in omega arith) in
+    rw (gate (s .args .wy) (s .args .h) (s .args .hollow) false (s .fits .wy) (s .fits .h .fits) (c .before .if1 .left))
+    (c .select-block .ensures
+    ∙ ap₃ (selectBlock (s .args .b)) (toZ-ofZ w32 (s .args .wy) (s .fits .wy)) high (toZ-ofZ w32 (s .args .sea-level) (s .fits .sea-level)))
 
 pub ground-cell-spec : {M : Type 1} → statement M
 ground-cell-spec =
-    tie.close
-    (tie.spec
-    cast-height
-    sub-if1
-    returns
-    select-block-requires
-    returns-2
-    select-block-requires-2
-    returns-3)
+    tie.close (tie.spec cast-height sub-if1 returns select-block-requires returns-2)
