@@ -37,10 +37,13 @@ boulderHash wx wz = hash2₃₂ (addW (mulW wx (pos 31)) (pos 555)) (addW (mulW 
 unfoldable pub boulderHeight : Float → ℤ
 boulderHeight h = pos 2 +ℤ toI32 (h *f nat 500)
 
--- on a mountain (biome 1), where the hash is at most 0.006
+-- how many blocks are laid at a hash: none where it exceeds 0.006 (01, Marked h)
+unfoldable pub boulderBlocks : Float → ℕ
+boulderBlocks h = cond (lt (nearest 6 1000) h) 0 (rangeLength (boulderHeight h))
+
+-- on a mountain (biome 1), from the column's top up
 unfoldable pub placeBoulder : ℕ → ℤ → Top → ℕ → ℕ → Float → List ℕ → List ℕ
-placeBoulder size oy t x z h c =
-    cond (eqb (t .biome) 1) (cond (lt (nearest 6 1000) h) c (pillarOf size oy x z (t .height) (rangeLength (boulderHeight h)) STONE c)) c
+placeBoulder size oy t x z h c = cond (eqb (t .biome) 1) (pillarOf size oy x z (t .height) (boulderBlocks h) STONE c) c
 
 -- "Boulders stand on columns 1 to size − 2"
 unfoldable pub boulderColumn : Frame → Top → ℕ → ℕ → List ℕ → List ℕ

@@ -12,7 +12,7 @@ use Rattle.words.specs.Wrap.{addW}
 use Rattle.words.specs.Num.{nearest}
 use Rattle.noise.specs.Hash.{hash2₃₂}
 use Rattle.column.specs.Floats.{_/f_, nat}
-use Rattle.grid.specs.Cube.{cellIndex, inside, steps}
+use Rattle.grid.specs.Cube.{cellIndex, inside, steps, tab}
 use Rattle.terrain.specs.Blocks.{LEAVES}
 use Rattle.terrain.specs.World.{localY}
 
@@ -47,17 +47,40 @@ layerStep size x z wx wz y r l j c = leafStep size x z wx wz y r l (j / (2 * r +
 unfoldable pub layerOf : ℕ → ℕ → ℕ → ℤ → ℤ → ℕ → ℕ → ℕ → List ℕ → List ℕ
 layerOf size x z wx wz y r l c = steps ((2 * r + 1) * (2 * r + 1)) (layerStep size x z wx wz y r l) c
 
--- a normal canopy and a giant one: the widest radius, and the layers less one
-abbrev pub Canopy : ℕ → ℕ → Type 0
-Canopy r n = ((r ≡ 2) × (n ≡ 3)) ⊎ ((r ≡ 4) × (n ≡ 4))
+-- a canopy (01's crown): its widest radius, leaf_r, and its height above the top of the trunk, canopy_h
+pub record Crown : Type 0 where
+  pub radius : ℕ
+  pub height : ℕ
 
--- the radius of layer l of n + 1, counted from the bottom: t = (dy + 1) / (canopy_h + 1), dy = l − 1
+abbrev pub crownWith : ℕ → ℕ → Crown
+crownWith r n = record { radius = r; height = n }
+
+-- the two of `place_tree`
+abbrev pub normalCrown : Crown
+normalCrown = crownWith 2 3
+
+abbrev pub giantCrown : Crown
+giantCrown = crownWith 4 4
+
+-- a radius and a height of one of the two
+abbrev pub Canopy : ℕ → ℕ → Type 0
+Canopy r n = ((r ≡ normalCrown .radius) × (n ≡ normalCrown .height)) ⊎ ((r ≡ giantCrown .radius) × (n ≡ giantCrown .height))
+
+-- the layers of a canopy of height n, dy = −1 to n − 1: layer l, counted from the bottom, is at dy = l − 1
+abbrev pub layersOf : ℕ → ℕ
+layersOf n = n + 1
+
+-- the radius of layer l: t = (dy + 1) / (canopy_h + 1)
 unfoldable pub leafRadius : ℕ → ℕ → ℕ → ℕ
 leafRadius r n l = cond (lt (nat l /f nat (n + 1)) (nearest 3 10)) (r - 1) (cond (lt (nearest 85 100) (nat l /f nat (n + 1))) (max (r - 1) 1) r)
 
--- the canopy (01's crown) around the top of the trunk, from one below it up
+-- the radii of a crown's layers, from the bottom (01, Marked g)
+unfoldable pub radii : Crown → List ℕ
+radii k = tab (layersOf (k .height)) (leafRadius (k .radius) (k .height))
+
+-- the canopy around the top of the trunk, from one below it up
 unfoldable pub canopyStep : ℕ → ℤ → ℕ → ℕ → ℤ → ℤ → ℤ → ℕ → ℕ → ℕ → List ℕ → List ℕ
 canopyStep size oy x z wx wz top r n l c = layerOf size x z wx wz (localY size oy (top +ℤ (pos l -ℤ pos 1))) (leafRadius r n l) l c
 
 unfoldable pub canopyOf : ℕ → ℤ → ℕ → ℕ → ℤ → ℤ → ℤ → ℕ → ℕ → List ℕ → List ℕ
-canopyOf size oy x z wx wz top r n c = steps (n + 1) (canopyStep size oy x z wx wz top r n) c
+canopyOf size oy x z wx wz top r n c = steps (layersOf n) (canopyStep size oy x z wx wz top r n) c

@@ -16,10 +16,12 @@ use Rattle.terrain.specs.World.{localY}
 use Rattle.terrain.specs.declared.world.Frame.{Frame}
 use Rattle.terrain.specs.declared.world.Top.{Top}
 use Rattle.boulders.specs.Signs.{rangeLength}
-unfoldable pub use Rattle.boulders.specs.Boulders.{insetIn, pillarStep, pillarOf, boulderHash, boulderHeight, placeBoulder, boulderColumn, boulderStep, bouldersOf}
+unfoldable pub use Rattle.boulders.specs.Boulders.{insetIn, pillarStep, pillarOf, boulderHash, boulderHeight, boulderBlocks}
+unfoldable pub use Rattle.boulders.specs.Boulders.{placeBoulder, boulderColumn, boulderStep, bouldersOf}
 pub use Rattle.boulders.specs.Boulders.{topOf, topIn}
-unfoldable pub use Rattle.crown.specs.Crown.{leafAt, offsetOr, squareGap, leafHash, hasLeaf, leafStep, layerStep, layerOf, leafRadius, canopyStep, canopyOf}
-pub use Rattle.crown.specs.Crown.{Canopy}
+unfoldable pub use Rattle.crown.specs.Crown.{leafAt, offsetOr, squareGap, leafHash, hasLeaf, leafStep, layerStep, layerOf}
+unfoldable pub use Rattle.crown.specs.Crown.{leafRadius, radii, canopyStep, canopyOf}
+pub use Rattle.crown.specs.Crown.{Crown, normalCrown, giantCrown, Canopy, layersOf}
 
 -- a trunk from level y up, then the canopy
 unfoldable pub growOf : ℕ → ℤ → ℕ → ℕ → ℤ → ℤ → ℕ → ℤ → ℕ → ℕ → List ℕ → List ℕ
@@ -30,9 +32,13 @@ unfoldable pub trunkHeight : Bool → Float → ℤ
 trunkHeight true v = pos 8 +ℤ toI32 (v *f nat 40)
 trunkHeight false v = pos 4 +ℤ toI32 (v *f nat 3)
 
+-- the crown of a giant, and of any other tree
+abbrev pub crownOf : Bool → Crown
+crownOf true = giantCrown
+crownOf false = normalCrown
+
 unfoldable pub plantOf : ℕ → ℤ → ℕ → ℕ → ℤ → ℤ → ℕ → Bool → Float → List ℕ → List ℕ
-plantOf size oy x z wx wz y true v c = growOf size oy x z wx wz y (trunkHeight true v) 4 4 c
-plantOf size oy x z wx wz y false v c = growOf size oy x z wx wz y (trunkHeight false v) 2 3 c
+plantOf size oy x z wx wz y big v c = growOf size oy x z wx wz y (trunkHeight big v) (crownOf big .radius) (crownOf big .height) c
 
 unfoldable pub treeHash : ℤ → ℤ → Float
 treeHash wx wz = hash2₃₂ (addW (mulW wx (pos 7)) (pos 1337)) (addW (mulW wz (pos 13)) (pos 7331))

@@ -9,15 +9,16 @@ use lib.Seq.{getD-set-same, getD-set-other}
 use lib.Dec.{ltb, eqb}
 use lib.IntN.{ℤ, pos, _+ℤ_, _-ℤ_}
 use lib.Signed.{ltZ}
-use lib.Ieee.{Float, lt}
+use lib.Ieee.{Float}
 use borrow.Author.Tests.{ltb-false, ltb-true, eqb-true, eqb-false}
-use Rattle.words.specs.Num.{nearest}
 use Rattle.grid.specs.Cube.{cellIndex, inside, putAt, seeAt, steps}
 use Rattle.terrain.specs.World.{localY}
 use Rattle.terrain.specs.declared.world.Frame.{Frame}
 use Rattle.terrain.specs.declared.world.Top.{Top}
 use Rattle.features.specs.Signs.{rangeLength}
-use Rattle.features.specs.Features.{insetIn, pillarStep, pillarOf, boulderHash, placeBoulder, boulderColumn, leafAt, offsetOr, hasLeaf, leafStep, layerStep, layerOf, leafRadius, canopyStep, canopyOf, growOf, plantOf, treeHash, varietyOf, treeGrows, isGiant, placeTree, treeColumn, boulderStep, bouldersOf, treeStep, treesOf}
+use Rattle.features.specs.Features.{insetIn, pillarStep, pillarOf, boulderHash, boulderBlocks, placeBoulder, boulderColumn, boulderStep, bouldersOf}
+use Rattle.features.specs.Features.{leafAt, offsetOr, hasLeaf, leafStep, layerStep, layerOf, leafRadius, layersOf, canopyStep, canopyOf, growOf}
+use Rattle.features.specs.Features.{trunkHeight, crownOf, plantOf, treeHash, varietyOf, treeGrows, isGiant, placeTree, treeColumn, treeStep, treesOf}
 
 module _ (R : List ℕ → List ℕ → Type 0) (same : (c : List ℕ) → R c c) (more : (a b c : List ℕ) → R a b → R b c → R a c) (one : (c : List ℕ) (i v : ℕ) → 0 < v → v < 65536 → R c (set c i v)) where
   if : (b : Bool) (c x y : List ℕ) → R c x → R c y → R c (cond b x y)
@@ -40,8 +41,9 @@ module _ (R : List ℕ → List ℕ → Type 0) (same : (c : List ℕ) → R c c
   boulder-kept : (o : Frame) (t : Top) (x z : ℕ) (c : List ℕ) → R c (boulderColumn o t x z c)
   unfolding boulderColumn placeBoulder
   boulder-kept o t x z c =
+      let n = boulderBlocks (boulderHash (o .ox +ℤ pos x) (o .oz +ℤ pos z)) in
       if (insetIn 1 (o .size) x z) c _ c
-      (if (eqb (t .biome) 1) c _ c (if (lt (nearest 6 1000) (boulderHash (o .ox +ℤ pos x) (o .oz +ℤ pos z))) c c _ (same c) (pillar-kept (o .size) (o .oy) x z (t .height) _ 1 c (omega arith) (omega arith))) (same c))
+      (if (eqb (t .biome) 1) c _ c (pillar-kept (o .size) (o .oy) x z (t .height) n 1 c (omega arith) (omega arith)) (same c))
       (same c)
 
   pub boulders-kept : (o : Frame) (t : ℕ → Top) (c : List ℕ) → R c (bouldersOf o t c)
@@ -61,13 +63,15 @@ module _ (R : List ℕ → List ℕ → Type 0) (same : (c : List ℕ) → R c c
   grow-kept : (s : ℕ) (oy : ℤ) (x z : ℕ) (wx wz : ℤ) (y : ℕ) (trunk : ℤ) (r n : ℕ) (c : List ℕ) → R c (growOf s oy x z wx wz y trunk r n c)
   unfolding growOf canopyOf canopyStep
   grow-kept s oy x z wx wz y trunk r n c =
-      more c (pillarOf s oy x z y (rangeLength trunk) 8 c) _ (pillar-kept s oy x z y (rangeLength trunk) 8 c (omega arith) (omega arith))
-      (steps-kept (n + 1) (canopyStep s oy x z wx wz (pos y +ℤ trunk) r n) (pillarOf s oy x z y (rangeLength trunk) 8 c) (λ l d. layer-kept s x z wx wz (localY s oy (pos y +ℤ trunk +ℤ (pos l -ℤ pos 1))) (leafRadius r n l) l d))
+      let d = pillarOf s oy x z y (rangeLength trunk) 8 c in
+      let top = pos y +ℤ trunk in
+      more c d _ (pillar-kept s oy x z y (rangeLength trunk) 8 c (omega arith) (omega arith))
+      (steps-kept (layersOf n) (canopyStep s oy x z wx wz top r n) d
+      (λ l d. layer-kept s x z wx wz (localY s oy (top +ℤ (pos l -ℤ pos 1))) (leafRadius r n l) l d))
 
   plant-kept : (s : ℕ) (oy : ℤ) (x z : ℕ) (wx wz : ℤ) (y : ℕ) (big : Bool) (v : Float) (c : List ℕ) → R c (plantOf s oy x z wx wz y big v c)
   unfolding plantOf
-  plant-kept s oy x z wx wz y true v c = grow-kept s oy x z wx wz y _ 4 4 c
-  plant-kept s oy x z wx wz y false v c = grow-kept s oy x z wx wz y _ 2 3 c
+  plant-kept s oy x z wx wz y big v c = grow-kept s oy x z wx wz y (trunkHeight big v) (crownOf big .radius) (crownOf big .height) c
 
   tree-kept : (o : Frame) (sea : ℤ) (t : Top) (x z : ℕ) (c : List ℕ) → R c (treeColumn o sea t x z c)
   unfolding treeColumn placeTree

@@ -3,7 +3,7 @@ use mathlib.Core.Path.{_≡_, refl, sym, ap, _∙_, subst}
 use Prim.Native.Nat.{ℕ, _*_, _/_, _≤_}
 use native.Mathlib.Nat.{mul-pos}
 use native.Mathlib.Omega.{arith}
-use mathlib.Core.Bool.{Bool, true, false, _&&_, _||_}
+use mathlib.Core.Bool.{Bool, true, false, _&&_, _||_, cond}
 use lib.Dec.{T, ltb, eqb}
 use lib.IntN.{ℤ, pos, negsuc}
 use lib.Ieee.{Float, nan, inf, fin, binary32, round, mul, lt, le, up, down, toSigned}
@@ -14,7 +14,7 @@ use borrow.Author.Tests.{ltb-true, ltb-false, eqb-true}
 use Rattle.words.specs.Num.{nearest, toI32}
 use Rattle.column.specs.Floats.{_*f_, nat}
 use Rattle.features.specs.Signs.{rangeLength, wholePart, plus, mul-plus, sum-natural}
-use Rattle.features.specs.Features.{boulderHeight}
+use Rattle.features.specs.Features.{boulderHeight, boulderBlocks}
 
 -- the f32 nearest to 0.006, and 500.0
 limit-is : nearest 6 1000 ≡ fin false 6442451 (negsuc 29)
@@ -65,9 +65,17 @@ part-most (fin true m x) p e = absurd (subst T (sym p) tt)
 part-most (fin false m x) p e = whole-most _ 3 (pos 0) (mul-plus (fin false m x) (fin false 125 (pos 2)) refl refl) (times-most m x (ltb-false _ _ e))
 
 -- 2 and at most 3 more
-pub boulder-most : (h : Float) → plus h ≡ true → lt (nearest 6 1000) h ≡ false → rangeLength (boulderHeight h) ≤ 5
+height-most : (h : Float) → plus h ≡ true → lt (nearest 6 1000) h ≡ false → rangeLength (boulderHeight h) ≤ 5
 unfolding boulderHeight
-boulder-most h p e =
+height-most h p e =
     let k : wholePart (h *f nat 500) ≤ 3 =
     subst (λ (z : Float). wholePart (h *f z) ≤ 3) (sym factor-is) (part-most h p (ap (λ (z : Float). lt z h) (sym limit-is) ∙ e)) in
     subst (λ (z : ℤ). rangeLength z ≤ 5) (sym (sum-natural 2 500 h p)) (omega arith)
+
+pub boulder-most : (h : Float) → plus h ≡ true → boulderBlocks h ≤ 5
+unfolding boulderBlocks
+boulder-most h p = go (lt (nearest 6 1000) h) refl
+  where
+    go : (b : Bool) → lt (nearest 6 1000) h ≡ b → cond b 0 (rangeLength (boulderHeight h)) ≤ 5
+    go true e = omega arith
+    go false e = height-most h p e

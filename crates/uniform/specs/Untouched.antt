@@ -7,15 +7,14 @@ use mathlib.Core.List.{List}
 use lib.Dec.{ltb, eqb}
 use lib.IntN.{ℤ, pos, _+ℤ_, _-ℤ_}
 use lib.Signed.{ltZ}
-use lib.Ieee.{lt}
 use borrow.Author.Tests.{le-ltb}
-use Rattle.words.specs.Num.{nearest}
 use Rattle.grid.specs.Cube.{inside, putAt, seeAt, steps}
 use Rattle.terrain.specs.World.{localY}
 use Rattle.terrain.specs.declared.world.Frame.{Frame}
 use Rattle.terrain.specs.declared.world.Top.{Top}
-use Rattle.features.specs.Signs.{rangeLength, hash2-plus}
-use Rattle.features.specs.Features.{insetIn, pillarStep, pillarOf, boulderHash, boulderHeight, placeBoulder, boulderColumn, boulderStep, bouldersOf, treeHash, treeGrows, placeTree, treeColumn, treeStep, treesOf}
+use Rattle.features.specs.Signs.{hash2-plus}
+use Rattle.features.specs.Features.{insetIn, pillarStep, pillarOf, boulderHash, boulderBlocks, placeBoulder, boulderColumn, boulderStep, bouldersOf}
+use Rattle.features.specs.Features.{treeHash, treeGrows, placeTree, treeColumn, treeStep, treesOf}
 use Rattle.uniform.specs.Reach.{boulder-most}
 
 either : (b : Bool) (c x : List ℕ) → x ≡ c → cond b x c ≡ c
@@ -50,13 +49,12 @@ unfolding pillarOf pillarStep
 pillar-out s oy x z y n v c h = steps-idle n (pillarStep s oy x z y v) c (λ k d l. put-out s x (localY s oy (pos (y + k))) z v d (h k l))
 
 -- a boulder is at most 5 high
-boulder-out : (s : ℕ) (oy : ℤ) (t : Top) (x z : ℕ) (wx wz : ℤ) (c : List ℕ) → ((j : ℕ) → j < 5 → s ≤ localY s oy (pos (t .height + j))) → placeBoulder s oy t x z (boulderHash wx wz) c ≡ c
+boulder-out : (s : ℕ) (oy : ℤ) (t : Top) (x z : ℕ) (wx wz : ℤ) (c : List ℕ) → ((j : ℕ) → j < 5 → s ≤ localY s oy (pos (t .height + j)))
+    → placeBoulder s oy t x z (boulderHash wx wz) c ≡ c
 unfolding placeBoulder boulderHash
-boulder-out s oy t x z wx wz c h = either (eqb (t .biome) 1) c _ (low (lt (nearest 6 1000) (boulderHash wx wz)) refl)
-  where
-    low : (b : Bool) → lt (nearest 6 1000) (boulderHash wx wz) ≡ b → cond b c (pillarOf s oy x z (t .height) (rangeLength (boulderHeight (boulderHash wx wz))) 1 c) ≡ c
-    low true e = refl
-    low false e = let m = boulder-most (boulderHash wx wz) (hash2-plus _ _) e in pillar-out s oy x z (t .height) (rangeLength (boulderHeight (boulderHash wx wz))) 1 c (λ j l. h j (omega arith))
+boulder-out s oy t x z wx wz c h =
+    let m = boulder-most (boulderHash wx wz) (hash2-plus _ _) in
+    either (eqb (t .biome) 1) c _ (pillar-out s oy x z (t .height) (boulderBlocks (boulderHash wx wz)) 1 c (λ j l. h j (omega arith)))
 
 pub boulders-out : (o : Frame) (t : ℕ → Top) (c : List ℕ) → ((k j : ℕ) → j < 5 → o .size ≤ localY (o .size) (o .oy) (pos (t k .height + j))) → bouldersOf o t c ≡ c
 unfolding bouldersOf boulderStep boulderColumn

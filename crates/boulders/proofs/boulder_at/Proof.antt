@@ -6,9 +6,10 @@ use lib.IntN.{ℤ}
 use lib.Ieee.{ofBits}
 use borrow.Author.Tests.{eq-eqb, ne-eqb}
 use Rattle.words.specs.Num.{nearest}
+use Rattle.grid.specs.Cube.{steps}
 use Rattle.terrain.proofs.Signed.{back}
 use Rattle.boulders.specs.Signs.{rangeLength, sum-natural}
-use Rattle.boulders.specs.Boulders.{pillarOf, boulderHeight, placeBoulder}
+use Rattle.boulders.specs.Boulders.{pillarOf, boulderHeight, boulderBlocks, placeBoulder}
 use Rattle.boulders.proofs.boulder_at.Statement.{statement}
 use Rattle.boulders.proofs.boulder_at.Tie as tie
 
@@ -17,7 +18,7 @@ unfolding placeBoulder
 returns c = rw (ne-eqb _ _ (c .if1 .taken))
 
 returns-2 : tie.Need-returns-2
-unfolding placeBoulder nearest ofBits
+unfolding placeBoulder boulderBlocks pillarOf steps nearest ofBits
 returns-2 c = rw (eq-eqb _ _ (c .before .if1 .left), c .if2 .taken)
 
 whole-requires : tie.Need-whole-requires
@@ -36,11 +37,15 @@ same-length : tie.Need-same-length
 same-length c = search needs
 
 returns-3 : tie.Need-returns-3
-unfolding placeBoulder boulderHeight nearest ofBits
+unfolding placeBoulder boulderBlocks boulderHeight nearest ofBits
 returns-3 c =
-    let s = c .before .before .before .before .before .before .before .before .before in
+    let c5 = c .before .before .before .before .before in
+    let s = c5 .before .before .before .before in
     let a = s .args in
-    rw (eq-eqb _ _ (c .before .before .before .before .before .before .before .if1 .left), c .before .before .before .before .before .before .if2 .left) (c .before .before .pillar .ensures ∙ ap₂ (λ (u : ℤ) (n : ℕ). pillarOf (a .size) u (a .x) (a .z) (a .t .height) n 1 (a .cells .now)) (back (a .oy) (s .pre .1)) (ap (λ (k : ℕ). 2 + k) (c .before .before .before .before .before .whole .ensures .0) ∙ sym (ap rangeLength (sum-natural 2 500 (a .h) (s .pre .3)))))
+    let few = ap (λ (k : ℕ). 2 + k) (c5 .whole .ensures .0) ∙ sym (ap rangeLength (sum-natural 2 500 (a .h) (s .pre .3))) in
+    rw (eq-eqb _ _ (c5 .before .before .if1 .left), c5 .before .if2 .left)
+    (c .before .before .pillar .ensures
+    ∙ ap₂ (λ (u : ℤ) (n : ℕ). pillarOf (a .size) u (a .x) (a .z) (a .t .height) n 1 (a .cells .now)) (back (a .oy) (s .pre .1)) few)
 
 pub boulder-at-spec : {M : Type 1} → statement M
 boulder-at-spec =
