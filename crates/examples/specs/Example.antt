@@ -5,16 +5,17 @@ use Prim.Native.Nat.{ℕ, _≤_}
 use lib.ListN.{length}
 use lib.IntN.{ℤ}
 use lib.Ieee.{Float}
+use Rattle.config.specs.declared.TerrainConfig.{TerrainConfig}
 
--- a case for each kind of value: an f32, an integer, a number (an id, a count, a radius, a refusal), bytes or ids in a row,
--- an integer that is the same for every column, sea level and seed offset, and a text that is the same for all cells and
--- buffers that the program may lend
+-- a case for each kind of value: an f32, an integer, a number (an id, a count, a refusal), numbers in a row (radii), a number
+-- that is the same for all settings with this world height and for every column, and a text that is the same for all cells
+-- and buffers that the program may lend
 pub data Example : Type 0 where
   float : Float → Float → Example
   integer : ℤ → ℤ → Example
   number : ℕ → ℕ → Example
-  text : List ℕ → List ℕ → Example
-  everywhere : (ℤ → ℤ → ℤ → Float → ℤ) → ℤ → Example
+  numbers : List ℕ → List ℕ → Example
+  everywhere : ℤ → (TerrainConfig → ℤ → ℤ → ℕ) → ℕ → Example
   printed : (List ℕ → List ℕ → List ℕ) → List ℕ → Example
 
 -- an example holds where the definition gives what 01 says
@@ -22,8 +23,8 @@ abbrev pub holds : Example → Type 0
 holds (float a b) = a ≡ b
 holds (integer a b) = a ≡ b
 holds (number a b) = a ≡ b
-holds (text a b) = a ≡ b
-holds (everywhere f b) = (wx wz sea : ℤ) (offset : Float) → f wx wz sea offset ≡ b
+holds (numbers a b) = a ≡ b
+holds (everywhere height f b) = (s : TerrainConfig) → s .«world_height_blocks» ≡ height → (wx wz : ℤ) → f s wx wz ≡ b
 holds (printed f b) = (cells out : List ℕ) → 4096 ≤ length cells → 25000 ≤ length out → f cells out ≡ b
 
 -- every entry of a table holds

@@ -1,10 +1,11 @@
 -- 01, Marked d to j: what the ground's definitions give at the marked arguments. Assumes nothing.
-use mathlib.Core.Path.{_≡_, refl, ap, _∙_}
+use mathlib.Core.Path.{_≡_, refl, ap}
+use mathlib.Core.Bool.{true, false}
 use mathlib.Core.List.{List, [], _∷_}
 use Prim.Native.Nat.{ℕ}
 use native.Mathlib.Omega.{arith}
-use lib.IntN.{ℤ, pos, negsuc}
-use lib.Ieee.{mul, div, lt, toSigned}
+use lib.IntN.{ℤ, pos, negsuc, natAbs, _-ℤ_}
+use lib.Ieee.{Float, mul, div, lt, toSigned}
 use Rattle.words.specs.Num.{nearest, toI32}
 use Rattle.column.specs.Column.{biomeAndHeight}
 use Rattle.column.specs.Floats.{nat}
@@ -14,8 +15,11 @@ use Rattle.column.specs.declared.Biome.the-variants.{Desert, Mountain, Plains}
 use Rattle.config.specs.Refusals.{refusal}
 use Rattle.config.specs.Limits.{header, sizeOk, seedOk, seaOk, heightOk, placeOk, placesOk, limitRefusal}
 use Rattle.terrain.specs.Blocks.{STONE, GRASS, SAND, SNOW, GRAVEL, desertBlock, mountainTop, mountainBlock, shoreBlock, plainsBlock, selectBlock}
-use Rattle.features.specs.Features.{leafRadius, boulderHeight}
-use Rattle.examples.specs.Example.{Example, integer, number, everywhere, AllHold, end, _and_}
+use Rattle.terrain.specs.World.{heightAt}
+use Rattle.features.specs.Features.{leafRadius, radii, crownOf, boulderHeight, boulderBlocks}
+use Rattle.grid.specs.Cube.{tab}
+use Rattle.ground.specs.Ground.{worldOf}
+use Rattle.examples.specs.Example.{Example, number, numbers, everywhere, holds, AllHold, end, _and_}
 
 -- a desert's block at a depth; the topmost block of a column of a height, with the sea at 24
 abbrev desertAt : ℕ → ℕ
@@ -48,28 +52,20 @@ rows-f = number (topAt Plains 25 26) SAND ∷ number (topAt Plains 26 27) GRASS 
 -- g. "Leaf radii from the bottom: normal crown 1, 1, 2, 2; giant 3, 3, 4, 4, 4."
 abbrev pub rows-g : List Example
 rows-g =
-    number (leafRadius 2 3 0) 1
-    ∷ number (leafRadius 2 3 1) 1
-    ∷ number (leafRadius 2 3 2) 2
-    ∷ number (leafRadius 2 3 3) 2
-    ∷ number (leafRadius 4 4 0) 3
-    ∷ number (leafRadius 4 4 1) 3
-    ∷ number (leafRadius 4 4 2) 4
-    ∷ number (leafRadius 4 4 3) 4
-    ∷ number (leafRadius 4 4 4) 4
+    numbers (radii (crownOf false)) (1 ∷ 1 ∷ 2 ∷ 2 ∷ [])
+    ∷ numbers (radii (crownOf true)) (3 ∷ 3 ∷ 4 ∷ 4 ∷ 4 ∷ [])
     ∷ []
 
--- h. "Boulder hash 0: 2 blocks; the f32 nearest 0.006: 5."
+-- h. "Boulder hash 0: 2 blocks; the f32 nearest 0.006: 5.": as many as are laid
 abbrev pub rows-h : List Example
-rows-h = integer (boulderHeight (nat 0)) (pos 2) ∷ integer (boulderHeight (nearest 6 1000)) (pos 5) ∷ []
+rows-h = number (boulderBlocks (nat 0)) 2 ∷ number (boulderBlocks (nearest 6 1000)) 5 ∷ []
 
--- i. "World height 2: height 1; 1 is refused." The greatest height is 1 there.
+-- i. "World height 2: height 1; 1 is refused.": every column of the world that settings with this world height give
+abbrev lowWorld : Example
+lowWorld = everywhere (pos 2) (λ s wx wz. heightAt (worldOf s) wx wz) 1
+
 abbrev pub rows-i : List Example
-rows-i =
-    everywhere (λ wx wz sea offset. biomeAndHeight wx wz sea (pos 1) offset .height) (pos 1)
-    ∷ number (limitsAt (pos 0) 2) 0
-    ∷ number (limitsAt (pos 0) 1) 4
-    ∷ []
+rows-i = lowWorld ∷ number (limitsAt (pos 0) 2) 0 ∷ number (limitsAt (pos 0) 1) 4 ∷ []
 
 -- j. "Size 64: place 15,624 and −15,625 pass; 15,625 and −15,626 don't."
 abbrev pub rows-j : List Example
@@ -93,25 +89,30 @@ unfolding selectBlock shoreBlock plainsBlock
 holds-f = refl and refl and end
 
 pub holds-g : AllHold rows-g
-unfolding leafRadius nearest div lt
-holds-g = refl and refl and refl and refl and refl and refl and refl and refl and refl and end
+unfolding radii tab leafRadius nearest div lt
+holds-g = refl and refl and end
 
 pub holds-h : AllHold rows-h
-unfolding boulderHeight toI32 toSigned nearest mul
+unfolding boulderBlocks boulderHeight toI32 toSigned nearest mul lt
 holds-h = refl and refl and end
 
-only-one : (z : ℤ) → Range 1 z → z ≡ pos 1
-only-one z r = r .is ∙ ap pos (let l = r .least in let m = r .most in omega arith)
+-- a column is 1 high where that is the greatest height
+one-high : (wx wz sea top : ℤ) (offset : Float) → top ≡ pos 1 → natAbs (biomeAndHeight wx wz sea top offset .height) ≡ 1
+one-high wx wz sea top offset e =
+    let r : Range 1 (biomeAndHeight wx wz sea (pos 1) offset .height) = height-range wx wz sea 1 offset (omega arith) in
+    let l = r .least in
+    let m = r .most in
+    rw e (omega arith)
 
-abbrev lowWorld : Example
-lowWorld = everywhere (λ wx wz sea offset. biomeAndHeight wx wz sea (pos 1) offset .height) (pos 1)
+low-world : holds lowWorld
+unfolding worldOf heightAt
+low-world s e wx wz =
+    let w = worldOf s in
+    one-high wx wz (w .«sea_level») (w .«max_height») (w .«seed_offset») (ap (λ (z : ℤ). z -ℤ pos 1) e)
 
 pub holds-i : AllHold rows-i
 unfolding limitRefusal refusal sizeOk seedOk seaOk heightOk placesOk placeOk
-holds-i =
-    _and_ {e = lowWorld}
-    (λ wx wz sea offset. only-one (biomeAndHeight wx wz sea (pos 1) offset .height) (height-range wx wz sea 1 offset (omega arith)))
-    (refl and refl and end)
+holds-i = _and_ {e = lowWorld} low-world (refl and refl and end)
 
 pub holds-j : AllHold rows-j
 unfolding limitRefusal refusal sizeOk seedOk seaOk heightOk placesOk placeOk
