@@ -87,7 +87,9 @@ boulder-column-requires c κs =
     let f = boulderStep o (topIn (a .heights .now) (a .biomes .now)) in
     let i0 : l .k ≤ o .size * o .size = l .inv .0 in
     let lt : l .k < o .size * o .size = c .before .before .before .loop-test .taken in
-    (record { most = p .most; all = l .inv .1 ∙ s .pre .3 .all }, p, c .before .before .shared-slice-known3 .given (l .k) .fits, mod-lt (l .k) ps, below-2 (o .size) (l .k) lt)
+    let hx = mod-lt (l .k) ps in
+    let hz = below-2 (o .size) (l .k) lt in
+    (record { most = p .most; all = l .inv .1 ∙ s .pre .3 .all }, p, c .before .before .shared-slice-known3 .given (l .k) .fits, omega arith, omega arith)
 
 add-k : tie.Need-add-k Inv-loop μ-loop
 add-k c =

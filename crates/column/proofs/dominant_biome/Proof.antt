@@ -1,12 +1,16 @@
 -- `column::dominant_biome` meets its contract. Assumes nothing.
-use mathlib.Core.Path.{sym}
-use Rattle.column.specs.Column.{dominantOf}
+use mathlib.Core.Path.{_≡_, sym}
+use mathlib.Core.Bool.{true, _&&_}
+use Rattle.column.specs.Column.{atLeast, dominantOf}
 use Rattle.column.proofs.dominant_biome.Statement.{statement}
 use Rattle.column.proofs.dominant_biome.Tie as tie
 
 returns : tie.Need-returns
 unfolding dominantOf
-returns c = sym (simp (c .if1 .taken))
+returns c =
+    let k = c .before .before .before .before .args .c in
+    let e : (atLeast (k .dw) (k .mw) && atLeast (k .dw) (k .fw) && atLeast (k .dw) (k .pw)) ≡ true = c .if1 .taken in
+    rw e
 
 returns-2 : tie.Need-returns-2
 unfolding dominantOf
