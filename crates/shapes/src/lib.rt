@@ -1,4 +1,5 @@
-// The noise and the curves that a column's climate and heights are made of: what `get_biome` of terrain.rs begins with.
+// The noise and the curves that a column's climate and heights are made of: what `get_biome` of terrain.rs begins with. `offset_fbm`, `scaled_fbm`,
+// `ridges` and `continent` are of its plain form alone; rows of columns (`column_rows`) have theirs, equal to the same definitions.
 ghost use mathlib.Core.Path.{_≡_};
 ghost use Rattle.shapes.specs.Shapes.{offsetFbm₃₂, scaledFbm₃₂, smoothRamp₃₂, ridge₃₂, ridgesOf, ridges₃₂, plateau₃₂, continent₃₂, hillBoost₃₂, coldBoost₃₂, clampOf};
 use noise::fbm2d;
