@@ -7,11 +7,15 @@ use words::wrap::low_bits;
 use words::wrap::wrapping_add;
 use words::wrap::wrapping_mul;
 
-// A 31-bit number as a fraction. The Rust divides by 0x7fffffff as f32, which is 2^31; so 1.0 can come out.
+// A 31-bit number as a fraction. The Rust divides by 0x7fffffff as f32, which is 2^31; so 1.0 can come out. Each half of
+// n stands as digits behind a power of two: `high` is 2^8 + (n >> 16) / 2^15, `low` is 2^-8 + (n & 0xffff) / 2^31. To take
+// both powers off is exact, so only the sum rounds. Nothing is converted, so no call waits for what a register held.
 pub fn unit(n: u32) -> f32
     ensures { λ r. ⌜ r ≡ unit31 n ⌝ }
 {
-    std::num::nearest_u32_to_f32(n) / 2147483648.0
+    let high = f32::from_bits(0x4380_0000 + (n >> 16));
+    let low = f32::from_bits(0x3b80_0000 + (n & 0xffff));
+    (high - 256.00390625) + low
 }
 
 // 2D integer hash, from 0 to 1.
