@@ -1,4 +1,4 @@
-// The integer hashes of noise.rs. Every f32 operation stands in its order.
+// The integer hashes of noise.rs.
 ghost use mathlib.Core.Path.{_≡_};
 ghost use Rattle.hashes.specs.Hash.{unit31, hash2₃₂, hash3₃₂};
 use words::wrap::fold_13;
