@@ -1,33 +1,62 @@
 -- When the program refuses, and with which number. Assumes nothing.
 use mathlib.Core.Path.{_≡_, sym, _∙_, ap}
 use mathlib.Core.Bool.{Bool, true, false, _&&_}
-use mathlib.Core.List.{List}
-use Prim.Native.Nat.{ℕ, _*_, _-_, _≤_, _<_}
+use mathlib.Core.List.{List, [], _++_}
+use Prim.Native.Nat.{ℕ, suc, _*_, _-_, _≤_, _<_}
 use native.Mathlib.Nat.{zero-add, mul-le-mul}
 use native.Mathlib.Omega.{arith}
 use lib.IntN.{natAbs}
 use lib.Dec.{leb}
-use lib.ListN.{length, take, drop, length-append, length-drop}
+use lib.ListN.{length, take, drop, getD, length-append, length-drop}
 use lib.Seq.{length-take-le}
 use borrow.Author.Tests.{le-leb, lt-leb}
 use Rattle.config.specs.declared.Header.{Header}
-use Rattle.format.specs.Journal.{lines}
+use Rattle.config.specs.declared.TerrainConfig.{TerrainConfig}
+use Rattle.config.specs.declared.ChunkPos.{ChunkPos}
+use Rattle.grid.specs.Count.{nonAirCount}
+use Rattle.ground.specs.Ground.{ground}
+use Rattle.format.specs.Fields.{joinTabs}
+use Rattle.format.specs.Journal.{lines, Read, read, bad, active, follow}
 use Rattle.format.specs.Written.{written, take-written}
 use Rattle.text.specs.Pick.{pick}
+use Rattle.text.specs.Decimal.{decimal, decimalF}
 use Rattle.journal.specs.Opens.{openingOf}
 use Rattle.journal.specs.declared.Opening.the-variants.{Opens, Refused}
 use Rattle.journal.proofs.Accepts.{opening-facts}
 use Rattle.calls.specs.Record.{cube}
-use Rattle.calls.specs.Calls.{reopenDoes}
-use Rattle.reopen.proofs.Opens.{open-six}
+use Rattle.calls.specs.Asked.{layAll}
+use Rattle.calls.specs.Calls.{configOf, posOf, openWith, reopenDoes}
+use Rattle.reopen.proofs.Opens.{open-six, open-with}
 use Rattle.reopen.proofs.Reopens.{fromOpening, reopen-is}
-use Rattle.print_lines.specs.Text.{noText}
+use Rattle.print_lines.specs.Text.{fieldsLine, okText, noText, mapText}
 use Rattle.report.specs.Text.{answerText, reportText}
 use Rattle.report.specs.Report.{lentBy, lentCells, Reported, reported, told, reportDoes}
 
 -- what the program prints for the held bytes of a journal, over these cells
 abbrev pub printed : List ℕ → ℕ → List ℕ → List ℕ
 printed j held c = reportText (reopenDoes (take (lentCells j held) c) j held)
+
+-- ---- texts that are not NO 6
+
+-- by the first byte
+ok-not-6 : (many standing count trailing : ℕ) (rows : List ℕ) (line : ℕ) → okText many standing count trailing ++ rows ≡ noText 6 line → ⊥
+unfolding okText noText fieldsLine joinTabs
+ok-not-6 many standing count trailing rows line e = let z : _≡_ {A = ℕ} 79 78 = ap (λ (t : List ℕ). getD t 0 0) e in omega arith
+
+-- by the first digit of the number
+twelve-not-6 : (k line : ℕ) → noText 12 k ≡ noText 6 line → ⊥
+unfolding noText fieldsLine joinTabs decimal decimalF
+twelve-not-6 k line e = let z : _≡_ {A = ℕ} 49 54 = ap (λ (t : List ℕ). getD t 3 0) e in omega arith
+
+later-not-6 : (config : TerrainConfig) (pos : ChunkPos) (used many trailing : ℕ) (c : List ℕ) (line : ℕ) (x : Read)
+    → reportText (openWith config pos used many trailing c x) ≡ noText 6 line → ⊥
+unfolding reportText answerText
+later-not-6 config pos used many trailing c line (read a) e =
+    ok-not-6 many (length (a .edits)) (nonAirCount (layAll (config .«chunk_size») (ground config pos) (a .edits))) trailing
+    (mapText (config .«chunk_size») (layAll (config .«chunk_size») (ground config pos) (a .edits))) line e
+later-not-6 config pos used many trailing c line (bad k) e = twelve-not-6 k line e
+
+-- ---- which number is printed
 
 module _ (j : List ℕ) (held : ℕ) (c : List ℕ) (enough : 4096 ≤ length c) where
   -- 9 to 11 and 1 to 5 come first, whatever the size
@@ -55,7 +84,7 @@ module _ (j : List ℕ) (held : ℕ) (c : List ℕ) (enough : 4096 ≤ length c)
             let l : length (take (lentCells j held) c) ≡ 4096 = ap (λ (i : ℕ). length (take i c)) lent ∙ length-take-le 4096 c enough in
             omega arith
 
-    -- a size of at most 16 is lent its cells, so that it never gives 6
+    -- a size of at most 16 is lent its size³ cells
     pub lent-whole : natAbs (h .«chunk_size») ≤ 16 → length (take (lentCells j held) c) ≡ cube (natAbs (h .«chunk_size»))
     unfolding lentCells
     lent-whole small =
@@ -63,6 +92,23 @@ module _ (j : List ℕ) (held : ℕ) (c : List ℕ) (enough : 4096 ≤ length c)
         let l : lentCells j held ≡ cube (natAbs (h .«chunk_size»)) = ap lentBy e ∙ rw (le-leb (natAbs (h .«chunk_size»)) 16 small) in
         ap (λ (i : ℕ). length (take i c)) l
         ∙ length-take-le (cube (natAbs (h .«chunk_size»))) c (omega arith)
+
+    -- so that the lines behind the first decide: the map that they give, or 12
+    pub later-decide : natAbs (h .«chunk_size») ≤ 16
+        → reopenDoes (take (lentCells j held) c) j held
+        ≡ openWith (configOf h) (posOf h) n (suc (length (lines (drop second (take n j))))) (held - n) (take (lentCells j held) c)
+        (follow (natAbs (h .«chunk_size»)) 2 (active []) (lines (drop second (take n j))))
+    later-decide small =
+        reopen-is (take (lentCells j held) c) j held
+        ∙ ap (fromOpening (take (lentCells j held) c) j held) e
+        ∙ open-with (take (lentCells j held) c) n (held - n) h (lines (drop second (take n j))) (opening-facts j held h n second e .limits) (lent-whole small)
+
+    -- and 6 is never printed
+    pub never-6 : natAbs (h .«chunk_size») ≤ 16 → (line : ℕ) → printed j held c ≡ noText 6 line → ⊥
+    never-6 small line p =
+        later-not-6 (configOf h) (posOf h) n (suc (length (lines (drop second (take n j))))) (held - n) (take (lentCells j held) c) line
+        (follow (natAbs (h .«chunk_size»)) 2 (active []) (lines (drop second (take n j))))
+        (sym (ap reportText (later-decide small)) ∙ p)
 
 -- ---- the first bytes of the buffer, as many as the answer says, are the text
 
