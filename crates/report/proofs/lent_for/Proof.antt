@@ -27,21 +27,23 @@ module _ (c : tie.After-struct-told) where
   same : natAbs (toZ w64 (ofZ w64 (c .before .before .args .header .«chunk_size»))) ≡ natAbs (c .before .before .args .header .«chunk_size»)
   same = ap natAbs again
 
+  most : natAbs (toZ w64 (ofZ w64 (c .before .before .args .header .«chunk_size»))) ≤ 64
+  most = rw again (subst (λ (z : ℤ). natAbs z ≤ 64) (sym (size .is)) (size .most))
+
 cast-size : tie.Need-cast-size
 cast-size c =
     rw (again c) (subst (λ (z : ℤ). T (nonNeg z) × Fits w64 (natAbs z)) (sym (size c .is)) (tt, record { fits = (let m = size c .most in omega arith) }))
 
 mul-result : tie.Need-mul-result
 mul-result c =
-    let k : natAbs (toZ w64 (ofZ w64 (c .before .before .before .args .header .«chunk_size»))) ≤ 16 = c .if1 .taken in
-    let m : natAbs (toZ w64 (ofZ w64 (c .before .before .before .args .header .«chunk_size»))) * natAbs (toZ w64 (ofZ w64 (c .before .before .before .args .header .«chunk_size»))) ≤ 16 * 16 =
-    mul-le-mul k k in
+    let k = most (c .before) in
+    let m : natAbs (toZ w64 (ofZ w64 (c .before .before .before .args .header .«chunk_size»))) * natAbs (toZ w64 (ofZ w64 (c .before .before .before .args .header .«chunk_size»))) ≤ 64 * 64 = mul-le-mul k k in
     record { fits = omega arith }
 
 mul-result-2 : tie.Need-mul-result-2
 mul-result-2 c =
-    let k : natAbs (toZ w64 (ofZ w64 (c .before .before .before .args .header .«chunk_size»))) ≤ 16 = c .if1 .taken in
-    let m : natAbs (toZ w64 (ofZ w64 (c .before .before .before .args .header .«chunk_size»))) * natAbs (toZ w64 (ofZ w64 (c .before .before .before .args .header .«chunk_size»))) * natAbs (toZ w64 (ofZ w64 (c .before .before .before .args .header .«chunk_size»))) ≤ 16 * 16 * 16 =
+    let k = most (c .before) in
+    let m : natAbs (toZ w64 (ofZ w64 (c .before .before .before .args .header .«chunk_size»))) * natAbs (toZ w64 (ofZ w64 (c .before .before .before .args .header .«chunk_size»))) * natAbs (toZ w64 (ofZ w64 (c .before .before .before .args .header .«chunk_size»))) ≤ 64 * 64 * 64 =
     mul-le-mul (mul-le-mul k k) k in
     record { fits = omega arith }
 
