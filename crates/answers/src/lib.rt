@@ -3,12 +3,12 @@
 ghost use mathlib.Core.Path.{_≡_};
 ghost use mathlib.Core.Option.{some};
 ghost use Prim.Native.Nat.{_≤_};
-ghost use Rattle.ground.specs.Ground.{reply};
+ghost use Rattle.ground.specs.Ground.{saysGenerated};
 ghost use Rattle.chunk.specs.Replies.{saysCounted, saysId, saysFlag, yes};
 ghost use Rattle.chunk_batch.specs.Replies.{saysWritten};
 ghost use Rattle.chunk_border.specs.Border.{saysExtracted};
 ghost use Rattle.tally.specs.Tally.{saysListed};
-ghost use Rattle.answers.specs.Answers.{answer, answerOf, batchAnswerOf, groundAnswer, faceOf};
+ghost use Rattle.answers.specs.Answers.{answer, answerOf, batchAnswerOf, faceOf};
 use chunk::BlockId;
 use chunk::Counted;
 use chunk::Flag;
@@ -59,7 +59,7 @@ pub fn refused(number: u32) -> Answer
 
 // Each answer of the library in C: one function for each kind.
 pub fn ground_answer(a: Generated) -> Answer
-    ensures { λ r. ⌜ r ≡ groundAnswer (reply a) ⌝ }
+    ensures { λ r. ⌜ r ≡ answerOf (saysGenerated a) ⌝ }
 {
     match a {
         Generated::Count(n) => accepted(n as usize),

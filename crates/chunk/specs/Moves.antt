@@ -14,10 +14,10 @@ use Rattle.grid.specs.Grid.{index-lt, index-y, in-all, put-length, steps-length
 use Rattle.grid.specs.Count.{nonAir, nonAirCount, count-most}
 use Rattle.edits.specs.Edits.{pick, columnHeight, layColumn, fillCells, setCells}
 use borrow.Author.Tests.{ltb-true, leb-true, leb-false, le-leb, lt-leb}
-use Rattle.config.specs.Refusals.{passed, refusal, passed-on, passed-stop, refusal-none, refusal-pass}
-use Rattle.chunk.specs.Replies.{accepted, refused, is-refused, not-refused}
-use Rattle.chunk.specs.Calls.{outcome, edited}
-use Rattle.chunk.specs.Tests.{Inside, CellOk, cell-at, countOk, countRefusal}
+use Rattle.config.specs.Refusals.{passed, refusal, passed-on, passed-stop, refusal-none}
+use Rattle.config.specs.Answers.{accepted, refusedWith, is-refused, not-refused, outcome}
+use Rattle.chunk.specs.Calls.{edited}
+use Rattle.chunk.specs.Tests.{Inside, CellOk, cell-at, countOk, countRefusal, count-pass}
 
 -- one cell of a list
 pub count-set : (c : List ℕ) (i v : ℕ) → i < length c → nonAirCount (set c i v) + nonAir (getD c i 0) ≡ nonAirCount c + nonAir v
@@ -129,11 +129,11 @@ unfolding countRefusal
 same-refusal size count b a p q e = rw (same-ok size count b a p q e)
 
 pub edit-input :
-    (input size count : ℕ) (v c d : List ℕ) (k : ℕ) → k ≡ input → (k ≡ 0 → ⊥) → outcome (refused k) c ≡ edited input size count v c d
+    (input size count : ℕ) (v c d : List ℕ) (k : ℕ) → k ≡ input → (k ≡ 0 → ⊥) → outcome (refusedWith k) c ≡ edited input size count v c d
 unfolding edited
 edit-input input size count v c d k i h =
     let e = passed-stop input (passed (countRefusal size count (nonAirCount c) (nonAirCount d)) ∷ []) (λ q. h (i ∙ q)) in
-    ap (λ (n : ℕ). outcome (refused n) c) (i ∙ sym e) ∙ sym (is-refused _ _ _ (λ q. h (i ∙ sym e ∙ q)))
+    ap (λ (n : ℕ). outcome (refusedWith n) c) (i ∙ sym e) ∙ sym (is-refused _ _ _ (λ q. h (i ∙ sym e ∙ q)))
 
 module _ (input size count : ℕ) (v c d : List ℕ) (p q : ℕ) (none : input ≡ 0) (moves : nonAirCount d + p ≡ nonAirCount c + q) where
   second : refusal (passed input ∷ passed (countRefusal size count (nonAirCount c) (nonAirCount d)) ∷ []) ≡ refusal (passed (countRefusal size count p q) ∷ [])
@@ -141,11 +141,11 @@ module _ (input size count : ℕ) (v c d : List ℕ) (p q : ℕ) (none : input �
       passed-on input (passed (countRefusal size count (nonAirCount c) (nonAirCount d)) ∷ []) none
       ∙ ap (λ (k : ℕ). refusal (passed k ∷ [])) (same-refusal size count (nonAirCount c) (nonAirCount d) p q moves)
 
-  pub edit-count : (m : ℕ) → m ≡ countRefusal size count p q → (m ≡ 0 → ⊥) → outcome (refused m) c ≡ edited input size count v c d
+  pub edit-count : (m : ℕ) → m ≡ countRefusal size count p q → (m ≡ 0 → ⊥) → outcome (refusedWith m) c ≡ edited input size count v c d
   unfolding edited
   edit-count m i h =
       let e = second ∙ passed-stop (countRefusal size count p q) [] (λ z. h (i ∙ z)) in
-      ap (λ (n : ℕ). outcome (refused n) c) (i ∙ sym e) ∙ sym (is-refused _ _ _ (λ z. h (i ∙ sym e ∙ z)))
+      ap (λ (n : ℕ). outcome (refusedWith n) c) (i ∙ sym e) ∙ sym (is-refused _ _ _ (λ z. h (i ∙ sym e ∙ z)))
 
   pub edit-done : (m : ℕ) → m ≡ countRefusal size count p q → m ≡ 0 → outcome (accepted (v ++ ((count + q - p) ∷ []))) d ≡ edited input size count v c d
   unfolding edited
@@ -159,14 +159,10 @@ pub right-count : (c d : List ℕ) → nonAirCount c + nonAirCount d - nonAirCou
 right-count c d = omega arith
 
 pub right-passes : (size : ℕ) (c d : List ℕ) → length c ≡ size * size * size → length d ≡ size * size * size → countRefusal size (nonAirCount c) (nonAirCount c) (nonAirCount d) ≡ 0
-unfolding countRefusal countOk
 right-passes size c d hc hd =
     let a = count-most c in
     let b = count-most d in
-    let f : nonAirCount c + nonAirCount d - nonAirCount c ≤ size * size * size = omega arith in
-    let g : nonAirCount c ≤ nonAirCount c + nonAirCount d = omega arith in
-    let h : nonAirCount c ≤ size * size * size = omega arith in
-    refusal-pass _ 21 [] (rw (le-leb _ _ h, le-leb _ _ g, le-leb _ _ f)) ∙ refusal-none
+    count-pass size (nonAirCount c) (nonAirCount c) (nonAirCount d) (omega arith) (omega arith) (omega arith)
 
 -- ---- a column's height: at most the size, and above 0 only within
 

@@ -5,19 +5,17 @@ use native.Mathlib.Omega.{arith}
 use mathlib.Core.Bool.{Bool, true, false, _&&_}
 use mathlib.Core.List.{List, [], _∷_}
 use lib.Dec.{T, ltb, leb, eqb}
+use lib.IntN.{pos}
 use lib.ListN.{length}
-use borrow.Author.Tests.{leb-true, eqb-true, ltb-true}
+use borrow.Author.Tests.{leb-true, eqb-true, ltb-true, le-leb, lt-leb}
 use Rattle.grid.specs.Cube.{Cube, cellIndex, inside}
 use Rattle.grid.specs.Grid.{index-lt, cube-most}
 use Rattle.config.specs.Refusals.{must, passed, refusal, refusal-zero, passed-zero, passed-on, passed-stop, refusal-none, refusal-pass, refusal-stop}
+use Rattle.config.specs.Limits.{sizeOk, size-between}
 
--- 01, Settings: "size 1 to 64"
-abbrev pub sizeOk : ℕ → Bool
-sizeOk size = leb 1 size && leb size 64
-
--- 01, Refused because of the input: "1 size." "6 cell slice .. not size³ long."
+-- 01, Refused because of the input: "1 size." "6 cell slice .. not size³ long." The limits of the size are those of the settings.
 unfoldable pub chunkRefusal : ℕ → ℕ → ℕ
-chunkRefusal size n = refusal (must (sizeOk size) 1 ∷ must (eqb n (size * size * size)) 6 ∷ [])
+chunkRefusal size n = refusal (must (sizeOk (pos size)) 1 ∷ must (eqb n (size * size * size)) 6 ∷ [])
 
 -- "7 cell outside, in set or get."
 unfoldable pub cellRefusal : ℕ → ℕ → ℕ → ℕ → ℕ → ℕ
@@ -31,6 +29,26 @@ countOk size count before after =
 
 unfoldable pub countRefusal : ℕ → ℕ → ℕ → ℕ → ℕ
 countRefusal size count before after = refusal (must (countOk size count before after) 21 ∷ [])
+
+-- ---- how the count's test answers
+
+module _ (size count before after : ℕ) where
+  pub count-held : size * size * size < count → countRefusal size count before after ≡ 21
+  unfolding countRefusal countOk
+  count-held h = refusal-stop _ 21 [] (rw (lt-leb _ _ h))
+
+  module _ (held : count ≤ size * size * size) where
+    pub count-low : count + after < before → countRefusal size count before after ≡ 21
+    unfolding countRefusal countOk
+    count-low l = refusal-stop _ 21 [] (rw (le-leb _ _ held, lt-leb _ _ l))
+
+    pub count-high : before ≤ count + after → size * size * size < count + after - before → countRefusal size count before after ≡ 21
+    unfolding countRefusal countOk
+    count-high l h = refusal-stop _ 21 [] (rw (le-leb _ _ held, le-leb _ _ l, lt-leb _ _ h))
+
+    pub count-pass : before ≤ count + after → count + after - before ≤ size * size * size → countRefusal size count before after ≡ 0
+    unfolding countRefusal countOk
+    count-pass l h = refusal-pass _ 21 [] (rw (le-leb _ _ held, le-leb _ _ l, le-leb _ _ h)) ∙ refusal-none
 
 -- ---- how a test after those of the chunk answers
 
@@ -57,10 +75,13 @@ pub record Chunk (size n : ℕ) : Type 0 where
 pub chunk-passed : (size n : ℕ) → chunkRefusal size n ≡ 0 → Chunk size n
 unfolding chunkRefusal
 chunk-passed size n e =
-    let p = refusal-zero (sizeOk size) 0 (must (eqb n (size * size * size)) 6 ∷ []) e in
+    let p = refusal-zero (sizeOk (pos size)) 0 (must (eqb n (size * size * size)) 6 ∷ []) e in
     let q = refusal-zero (eqb n (size * size * size)) 5 [] (p .1) in
-    let s = both-true (leb 1 size) (leb size 64) (p .0) in
-    record { least = leb-true 1 size (s .0); most = leb-true size 64 (s .1); all = eqb-true n (size * size * size) (q .0) }
+    let b = size-between (pos size) (p .0) in
+    let m : size ≡ b .n = cc in
+    let lo = b .least in
+    let hi = b .most in
+    record { least = omega arith; most = omega arith; all = eqb-true n (size * size * size) (q .0) }
 
 pub cube-of : (size : ℕ) (c : List ℕ) → Chunk size (length c) → Cube size c
 cube-of size c h = record { most = h .most; all = h .all }

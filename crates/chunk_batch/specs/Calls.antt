@@ -1,9 +1,10 @@
--- What a batch on bare cells does: its reply and the cells. The contract cites this definition. Assumes nothing.
+-- What a batch on bare cells does: its answer and the cells. The contract cites this definition. Assumes nothing.
 use Prim.Native.Nat.{ℕ}
 use mathlib.Core.List.{List, [], _∷_}
 use lib.ListN.{length}
+use Rattle.config.specs.Answers.{Outcome}
 use Rattle.chunk.specs.Tests.{chunkRefusal}
-use Rattle.chunk.specs.Calls.{Outcome, edited}
+use Rattle.chunk.specs.Calls.{edited}
 use Rattle.edits.specs.Edits.{Group, batchGroups, insideGroups, batchCells}
 
 -- 01, Refused because of the state: "an edit on bare cells .. tests 1, 6, 7 and then the count" (a batch has no 7: what lies outside is skipped).

@@ -6,23 +6,18 @@ use native.Mathlib.Omega.{arith}
 use native.Mathlib.Nat.{mod-eq-of-lt}
 use lib.ListN.{length, set}
 use lib.Seq.{set-getD}
-use borrow.Author.Tests.{lt-ltb, le-leb}
-use Rattle.config.specs.Refusals.{refusal-pass, refusal-none}
+use borrow.Author.Tests.{lt-ltb}
+use Rattle.config.specs.Answers.{accepted, outcome}
 use Rattle.grid.specs.Cube.{cellIndex, seeAt}
-use Rattle.chunk.specs.Replies.{accepted}
-use Rattle.chunk.specs.Tests.{Inside, chunkRefusal, countOk, countRefusal}
-use Rattle.chunk.specs.Calls.{outcome, edited}
+use Rattle.chunk.specs.Tests.{Inside, chunkRefusal, countRefusal, count-pass}
+use Rattle.chunk.specs.Calls.{edited}
 use Rattle.chunk.specs.Moves.{put-inside, see-inside, edit-done}
 use Rattle.edits.specs.Edits.{group, batchGroups, insideGroups, putGroup, batchCells}
 use Rattle.chunk_batch.specs.Calls.{groupsDo, batchDoes}
 
 -- a count that no edit moves is right where it fits the chunk
 count-kept : (size count : ℕ) → count ≤ size * size * size → countRefusal size count 0 0 ≡ 0
-unfolding countRefusal countOk
-count-kept size count h =
-    let a : 0 ≤ count + 0 = omega arith in
-    let b : count + 0 - 0 ≤ size * size * size = omega arith in
-    refusal-pass _ 21 [] (rw (le-leb _ _ h, le-leb _ _ a, le-leb _ _ b)) ∙ refusal-none
+count-kept size count h = count-pass size count 0 0 h (omega arith) (omega arith)
 
 module _ (size count x y z : ℕ) (c : List ℕ) (i : Inside size x y z) where
   -- a cell's own id put into it

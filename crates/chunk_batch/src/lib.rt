@@ -1,8 +1,8 @@
 // The bare batch: groups of four numbers, any number of them, of which those in the chunk are laid on in their order.
 ghost use mathlib.Core.Path.{_≡_};
 ghost use Prim.Native.Nat.{_≤_};
+ghost use Rattle.config.specs.Answers.{outcome};
 ghost use Rattle.chunk.specs.Tests.{countRefusal};
-ghost use Rattle.chunk.specs.Calls.{outcome};
 ghost use Rattle.chunk_batch.specs.Replies.{saysWritten};
 ghost use Rattle.chunk_batch.specs.Calls.{batchDoes};
 
@@ -49,9 +49,9 @@ pub fn set_blocks(cells: &mut [u16], size: usize, count: u32, edits: &[u32]) -> 
     }
     let n = writer::count_inside(size, edits);
     groups::lay_groups(cells, size, edits);
-    let total = count as usize + change.after - change.before;
+    let total = (count as usize + change.after - change.before) as u32;
     BatchReply::Written {
         written: n,
-        count: total as u32,
+        count: total,
     }
 }

@@ -1,5 +1,5 @@
 -- What `extract_border` does. Assumes nothing.
-use mathlib.Core.Path.{_≡_}
+use mathlib.Core.Path.{_≡_, refl, sym, ap}
 use Prim.Native.Nat.{ℕ, zero, suc, _-_, _*_, _/_, _%_, _<_}
 use native.Mathlib.Omega.{arith}
 use native.Mathlib.Nat.{mod-lt}
@@ -10,16 +10,17 @@ use borrow.Author.Tests.{eqb-true}
 use Rattle.grid.specs.Cube.{cellIndex, tab}
 use Rattle.grid.specs.Grid.{index-lt, below-2}
 use Rattle.config.specs.Refusals.{must, passed, refusal, refusal-zero, passed-zero}
-use Rattle.chunk.specs.Replies.{Reply, accepted, refused, unlessRefused}
+use Rattle.config.specs.Answers.{Answer, accepted, refusedWith, never-both, unlessRefused}
 use Rattle.chunk.specs.Tests.{chunkRefusal, Chunk, chunk-passed}
 use Rattle.chunk_border.specs.declared.Face.{Face}
 use Rattle.chunk_border.specs.declared.Face.the-variants.{PosX, NegX, PosY, NegY, PosZ, NegZ}
 use Rattle.chunk_border.specs.declared.Extracted.{Extracted}
 use Rattle.chunk_border.specs.declared.Extracted.the-variants as extracted
 
-abbrev pub saysExtracted : Extracted → Reply
+-- what is handed out lies in the lent slice: no values
+abbrev pub saysExtracted : Extracted → Answer
 saysExtracted extracted.Done = accepted []
-saysExtracted (extracted.Refused n) = refused n
+saysExtracted (extracted.Refused n) = refusedWith n
 
 -- 01, Beside the chain: "`extract_border` for six faces". The k-th block of a side is the cell at
 -- X sides: z = k % size, y = k / size; Y sides: x = k % size, z = k / size; Z sides: x = k % size, y = k / size.
@@ -38,18 +39,25 @@ borderOf face size c = tab (size * size) (λ (k : ℕ). getD c (borderSource fac
 unfoldable pub borderRefusal : ℕ → ℕ → ℕ → ℕ
 borderRefusal size n m = refusal (passed (chunkRefusal size n) ∷ must (eqb m (size * size)) 6 ∷ [])
 
-pub record Outcome : Type 0 where
-  pub reply : Reply
+pub record Bordered : Type 0 where
+  pub answer : Answer
   pub border : List ℕ
 
-abbrev pub bordered : Reply → List ℕ → Outcome
-bordered r b = record { reply = r; border = b }
+abbrev pub bordered : Answer → List ℕ → Bordered
+bordered a b = record { answer = a; border = b }
 
-unfoldable pub borderDoes : Face → ℕ → List ℕ → List ℕ → Outcome
+unfoldable pub borderDoes : Face → ℕ → List ℕ → List ℕ → Bordered
 borderDoes face size c b =
-    unlessRefused (borderRefusal size (length c) (length b)) (bordered (accepted []) (borderOf face size c)) (λ (n : ℕ). bordered (refused n) b)
+    unlessRefused (borderRefusal size (length c) (length b)) (bordered (accepted []) (borderOf face size c)) (λ (n : ℕ). bordered (refusedWith n) b)
 
 -- ---- laws
+
+-- answers that say the same are the same: what was handed out is no refusal with number 0
+pub same-extracted : (a b : Extracted) → saysExtracted a ≡ saysExtracted b → a ≡ b
+same-extracted extracted.Done extracted.Done e = refl
+same-extracted extracted.Done (extracted.Refused n) e = absurd (never-both [] n 0 e)
+same-extracted (extracted.Refused m) extracted.Done e = absurd (never-both [] m 0 (sym e))
+same-extracted (extracted.Refused m) (extracted.Refused n) e = let q : m ≡ n = cc in ap extracted.Refused q
 
 pub record BorderOk (size n m : ℕ) : Type 0 where
   pub chunk : Chunk size n

@@ -1,4 +1,4 @@
--- What each call that edits bare cells does: its reply and the cells. The contracts cite these definitions. Assumes nothing.
+-- What each call that edits bare cells does: its answer and the cells. The contracts cite these definitions. Assumes nothing.
 use mathlib.Core.Path.{_≡_}
 use Prim.Native.Nat.{ℕ, _*_}
 use mathlib.Core.List.{List, [], _∷_}
@@ -7,9 +7,10 @@ use lib.ListN.{length}
 use borrow.Author.Tests.{eqb-true}
 use Rattle.grid.specs.Count.{nonAirCount}
 use Rattle.config.specs.Refusals.{must, passed, refusal, refusal-zero, passed-zero}
+use Rattle.config.specs.Answers.{Outcome, done}
 use Rattle.edits.specs.Edits.{setCells, fillCells}
 use Rattle.chunk.specs.Tests.{Chunk, chunkRefusal, cellRefusal, chunk-passed}
-use Rattle.chunk.specs.Calls.{Outcome, done, edited}
+use Rattle.chunk.specs.Calls.{edited}
 
 -- "6 cell slice, or the one that replaces it, not size³ long."
 unfoldable pub replaceRefusal : ℕ → ℕ → ℕ → ℕ

@@ -3,8 +3,8 @@
 // as they were.
 ghost use mathlib.Core.Path.{_≡_};
 ghost use lib.ListN.{length};
+ghost use Rattle.config.specs.Answers.{outcome};
 ghost use Rattle.chunk.specs.Replies.{saysCounted};
-ghost use Rattle.chunk.specs.Calls.{outcome};
 ghost use Rattle.chunk_edit.specs.Calls.{replaceRefusal, replaceDoes, setDoes, fillDoes};
 use chunk::Counted;
 

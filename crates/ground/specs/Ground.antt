@@ -1,6 +1,6 @@
 -- The ground of a chunk, and what `generate` does. Assumes nothing.
+use mathlib.Core.Path.{_≡_, sym, ap}
 use Prim.Native.Nat.{ℕ, _*_}
-use mathlib.Core.Bool.{Bool, true, false}
 use mathlib.Core.List.{List, [], _∷_}
 use lib.Dec.{eqb}
 use lib.IntN.{ℤ, pos, _-ℤ_, _*ℤ_}
@@ -9,6 +9,7 @@ use lib.ListN.{length}
 use Rattle.column.specs.Floats.{_*f_, nat, real}
 use Rattle.config.specs.Refusals.{must, passed, refusal}
 use Rattle.config.specs.Limits.{limitRefusal, configHeader}
+use Rattle.config.specs.Answers.{Answer, accepted, refusedWith, never-both, Outcome, done}
 use Rattle.config.specs.declared.TerrainConfig.{TerrainConfig}
 use Rattle.config.specs.declared.ChunkPos.{ChunkPos}
 use Rattle.grid.specs.Count.{nonAirCount}
@@ -39,29 +40,18 @@ ground s p = groundIn (worldOf s) (frameOf s p)
 unfoldable pub generateRefusal : TerrainConfig → ChunkPos → ℕ → ℕ
 generateRefusal s p n = refusal (passed (limitRefusal (configHeader s p)) ∷ must (eqb n (s .«chunk_size» * s .«chunk_size» * s .«chunk_size»)) 6 ∷ [])
 
--- 01's answers: the count, or a refusal's number and line number ("0 except for 11 and 12")
-pub data Reply : Type 0 where
-  accepted : ℕ → Reply
-  refused : ℕ → ℕ → Reply
-
-abbrev pub reply : Generated → Reply
-reply (Count n) = accepted n
-reply (Refused k) = refused k 0
-
-pub record Outcome : Type 0 where
-  pub answer : Reply
-  pub cells : List ℕ
-
-abbrev pub outcome : Reply → List ℕ → Outcome
-outcome a c = record { answer = a; cells = c }
-
-abbrev pub pick : Bool → Outcome → Outcome → Outcome
-pick true a b = a
-pick false a b = b
+-- the count
+abbrev pub saysGenerated : Generated → Answer
+saysGenerated (Count n) = accepted (n ∷ [])
+saysGenerated (Refused k) = refusedWith k
 
 -- the cells become the ground and the answer is their count; a refusal leaves them as they came
 unfoldable pub generateDoes : TerrainConfig → ChunkPos → List ℕ → Outcome
-generateDoes s p c =
-    pick (eqb (generateRefusal s p (length c)) 0)
-    (outcome (accepted (nonAirCount (ground s p))) (ground s p))
-    (outcome (refused (generateRefusal s p (length c)) 0) c)
+generateDoes s p c = done (generateRefusal s p (length c)) (nonAirCount (ground s p) ∷ []) c (ground s p)
+
+-- answers that say the same are the same
+pub same-generated : (a b : Generated) → saysGenerated a ≡ saysGenerated b → a ≡ b
+same-generated (Count m) (Count n) e = let q : m ≡ n = cc in ap Count q
+same-generated (Count m) (Refused n) e = absurd (never-both (m ∷ []) n 0 e)
+same-generated (Refused m) (Count n) e = absurd (never-both (n ∷ []) m 0 (sym e))
+same-generated (Refused m) (Refused n) e = let q : m ≡ n = cc in ap Refused q

@@ -10,7 +10,7 @@ ghost use Rattle.chunk_edit.specs.Calls.{replaceDoes, setDoes, fillDoes};
 ghost use Rattle.chunk_batch.specs.Calls.{batchDoes};
 ghost use Rattle.calls.specs.Calls.{freshDoes, reopenDoes};
 ghost use Rattle.prefix.specs.Prefix.{committedPart};
-ghost use Rattle.answers.specs.Answers.{answerOf, answered, editInC, batchAnswered, batchInC, generateInC, borderAnswered, borderInCDoes, TalliedInC};
+ghost use Rattle.answers.specs.Answers.{answerOf, answered, editInC, batchAnswered, batchInC, borderAnswered, borderInCDoes, TalliedInC};
 ghost use Rattle.starts.specs.Sessions.{begunInC, freshInC, resumedInC, reopenInC};
 
 mod by_reference;
@@ -65,7 +65,7 @@ pub extern "C" fn pl_fbm3d(x: f32, y: f32, z: f32, octaves: u32) -> f32
 
 #[no_mangle]
 pub extern "C" fn pl_generate(config: TerrainConfig, pos: ChunkPos, cells: &mut [u16]) -> Answer
-    ensures { λ r. ⌜ answered r (now (cells .exit)) ≡ generateInC (generateDoes config pos (now (cells .entry))) ⌝ }
+    ensures { λ r. ⌜ answered r (now (cells .exit)) ≡ editInC (generateDoes config pos (now (cells .entry))) ⌝ }
 {
     answers::ground_answer(ground::generate(config, pos, cells))
 }

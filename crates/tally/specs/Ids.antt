@@ -9,12 +9,9 @@ use lib.Dec.{ltb, eqb}
 use lib.ListN.{length, set, getD, take, length-set}
 use lib.Seq.{ext-getD, getD-set-same, getD-set-other, take-suc}
 use borrow.Author.Tests.{ltb-true, ltb-false, ne-eqb, eqb-true, eqb-false}
+use Rattle.text.specs.Pick.{pick}
 use Rattle.grid.specs.Cube.{tab}
 use Rattle.grid.specs.Grid.{tab-length, tab-at}
-
-abbrev pub pick : {A : Type 0} → Bool → A → A → A
-pick true a b = a
-pick false a b = b
 
 -- 1 for a cell that has the id
 abbrev pub same : ℕ → ℕ → ℕ
@@ -115,13 +112,13 @@ unfolding bumpAt
 bump-at base id t k h = at (ltb id base) refl (ltb (id - base) (length t)) refl
   where
     other : (id ≡ base + k → ⊥) → getD t k 0 ≡ getD t k 0 + same id (base + k)
-    other n = let e : _≡_ {A = ℕ} (same id (base + k)) 0 = ap (λ (b : Bool). pick {A = ℕ} b 1 0) (ne-eqb id (base + k) n) in omega arith
+    other n = let e : _≡_ {A = ℕ} (same id (base + k)) 0 = ap (λ (b : Bool). pick {X = ℕ} b 1 0) (ne-eqb id (base + k) n) in omega arith
 
     this : (b : Bool) → eqb id (base + k) ≡ b → base ≤ id → getD (set t (id - base) (getD t (id - base) 0 + 1)) k 0 ≡ getD t k 0 + same id (base + k)
     this true e l =
         let q = eqb-true id (base + k) e in
         let s : id - base ≡ k = omega arith in
-        let w : _≡_ {A = ℕ} (same id (base + k)) 1 = ap (λ (b : Bool). pick {A = ℕ} b 1 0) e in
+        let w : _≡_ {A = ℕ} (same id (base + k)) 1 = ap (λ (b : Bool). pick {X = ℕ} b 1 0) e in
         ap (λ (j : ℕ). getD (set t j (getD t j 0 + 1)) k 0) s ∙ getD-set-same t k (getD t k 0 + 1) 0 h ∙ ap (λ (j : ℕ). getD t k 0 + j) (sym w)
     this false e l =
         let q = eqb-false id (base + k) e in

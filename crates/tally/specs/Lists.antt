@@ -9,11 +9,12 @@ use lib.Dec.{T, ltb}
 use lib.ListN.{length, getD, drop, length-append, length-drop, List·getD-append}
 use lib.Seq.{drop-at, getD-at}
 use borrow.Author.Tests.{lt-ltb, ltb-true, ltb-false, le-leb, lt-leb}
-use Rattle.tally.specs.Ids.{pick, listIf, span, idCount, presentIds, presentCounts}
+use Rattle.text.specs.Pick.{pick}
+use Rattle.tally.specs.Ids.{listIf, span, idCount, presentIds, presentCounts}
 use Rattle.tally.specs.Spans.{last-case, span-length}
 use Rattle.tally.specs.Tally.{Place, Listing, Past, Tallied, tallyRefusal}
+use Rattle.config.specs.Answers.{accepted, refusedWith, is-refused, not-refused}
 use Rattle.chunk.specs.Tests.{chunkRefusal, then-chunk, then-stop, then-pass}
-use Rattle.chunk.specs.Replies.{accepted, refused, is-refused, not-refused}
 
 both-true : (a b : Bool) → a && b ≡ true → (a ≡ true) × (b ≡ true)
 both-true true b e = (refl, e)
@@ -150,10 +151,12 @@ refuse-none size c n m h k l = then-pass size (length c) _ 13 h (rw (le-leb (len
 
 pub tally-refused :
     (size : ℕ) (c ids counts : List ℕ) (k : ℕ) → k ≡ tallyRefusal size c (length ids) (length counts) → (k ≡ 0 → ⊥)
-    → Tallied size c (refused k) ids counts ids counts
+    → Tallied size c (refusedWith k) ids counts ids counts
 tally-refused size c ids counts k e h =
     record {
-      reply = ap refused e ∙ sym (is-refused (tallyRefusal size c (length ids) (length counts)) (accepted (length (presentIds c) ∷ [])) refused (λ q. h (e ∙ q)));
+      answer =
+          ap refusedWith e
+          ∙ sym (is-refused (tallyRefusal size c (length ids) (length counts)) (accepted (length (presentIds c) ∷ [])) refusedWith (λ q. h (e ∙ q)));
       listing = λ q. absurd (h (e ∙ q));
       ids-past = λ q. absurd (h (e ∙ q));
       counts-past = λ q. absurd (h (e ∙ q));
@@ -168,7 +171,9 @@ pub tally-done :
     → Tallied size c (accepted (n ∷ [])) ids counts ids′ counts′
 tally-done size c ids counts ids′ counts′ n e en li lc ei ec =
     record {
-      reply = ap (λ (k : ℕ). accepted (k ∷ [])) en ∙ sym (not-refused (tallyRefusal size c (length ids) (length counts)) (accepted (length (presentIds c) ∷ [])) refused e);
+      answer =
+          ap (λ (k : ℕ). accepted (k ∷ [])) en
+          ∙ sym (not-refused (tallyRefusal size c (length ids) (length counts)) (accepted (length (presentIds c) ∷ [])) refusedWith e);
       listing = λ q. listing c ids′ counts′ (drop (length (presentIds c)) ids) (drop (length (presentIds c)) counts) ei ec;
       ids-past = λ q. past (presentIds c) ids ids′ (length (presentIds c)) refl li ei;
       counts-past = λ q. past (presentCounts c) counts counts′ (length (presentIds c)) (same-length c) lc ec;

@@ -11,7 +11,8 @@ use lib.Dec.{ltb}
 use lib.ListN.{length, set, getD, drop, length-append, length-drop, List·getD-append}
 use lib.Seq.{sets, sets-eq, take-at, drop-append-add, drop-drop, getD-at}
 use borrow.Author.Tests.{ltb-true, ltb-false, lt-ltb, le-ltb}
-use Rattle.tally.specs.Ids.{pick, listIf, span, idCount, idTable, table-at, windowIds, windowCounts, seenIds, seenCounts, presentIds}
+use Rattle.text.specs.Pick.{pick}
+use Rattle.tally.specs.Ids.{listIf, span, idCount, idTable, table-at, windowIds, windowCounts, seenIds, seenCounts, presentIds}
 
 pub span-more : (b m : ℕ) (f x : ℕ → ℕ) → span b (m + 1) f x ≡ span b m f x ++ listIf (b + m) (f (b + m)) (x (b + m))
 unfolding span

@@ -1,20 +1,20 @@
 -- What the tally promises. Assumes nothing.
-use mathlib.Core.Path.{_≡_}
+use mathlib.Core.Path.{_≡_, sym, ap}
 use Prim.Native.Nat.{ℕ, _<_}
 use mathlib.Core.Bool.{_&&_}
 use mathlib.Core.List.{List, [], _∷_}
 use lib.Dec.{leb}
 use lib.ListN.{length, getD, drop}
 use Rattle.config.specs.Refusals.{must, passed, refusal}
-use Rattle.chunk.specs.Replies.{Reply, accepted, refused, unlessRefused}
+use Rattle.config.specs.Answers.{Answer, accepted, refusedWith, never-both, unlessRefused}
 use Rattle.chunk.specs.Tests.{chunkRefusal}
 use Rattle.tally.specs.Ids.{idCount, presentIds}
 use Rattle.tally.specs.declared.Listed.{Listed}
 use Rattle.tally.specs.declared.Listed.the-variants as listed
 
-abbrev pub saysListed : Listed → Reply
+abbrev pub saysListed : Listed → Answer
 saysListed (listed.Ids n) = accepted (n ∷ [])
-saysListed (listed.Refused n) = refused n
+saysListed (listed.Refused n) = refusedWith n
 
 -- 01, Beside the chain: "1 and 6 first"; "13 tally lists shorter than the ids present."
 unfoldable pub tallyRefusal : ℕ → List ℕ → ℕ → ℕ → ℕ
@@ -41,10 +41,17 @@ pub record Past (before after : List ℕ) (n : ℕ) : Type 0 where
   pub long : length after ≡ length before
   pub past : drop n after ≡ drop n before
 
-pub record Tallied (size : ℕ) (c : List ℕ) (r : Reply) (ids counts ids′ counts′ : List ℕ) : Type 0 where
-  pub reply : r ≡ unlessRefused (tallyRefusal size c (length ids) (length counts)) (accepted (length (presentIds c) ∷ [])) refused
+pub record Tallied (size : ℕ) (c : List ℕ) (a : Answer) (ids counts ids′ counts′ : List ℕ) : Type 0 where
+  pub answer : a ≡ unlessRefused (tallyRefusal size c (length ids) (length counts)) (accepted (length (presentIds c) ∷ [])) refusedWith
   pub listing : tallyRefusal size c (length ids) (length counts) ≡ 0 → Listing c ids′ counts′ (length (presentIds c))
   pub ids-past : tallyRefusal size c (length ids) (length counts) ≡ 0 → Past ids ids′ (length (presentIds c))
   pub counts-past : tallyRefusal size c (length ids) (length counts) ≡ 0 → Past counts counts′ (length (presentIds c))
   pub ids-kept : (tallyRefusal size c (length ids) (length counts) ≡ 0 → ⊥) → ids′ ≡ ids
   pub counts-kept : (tallyRefusal size c (length ids) (length counts) ≡ 0 → ⊥) → counts′ ≡ counts
+
+-- answers that say the same are the same
+pub same-listed : (a b : Listed) → saysListed a ≡ saysListed b → a ≡ b
+same-listed (listed.Ids m) (listed.Ids n) e = let q : m ≡ n = cc in ap listed.Ids q
+same-listed (listed.Ids m) (listed.Refused n) e = absurd (never-both (m ∷ []) n 0 e)
+same-listed (listed.Refused m) (listed.Ids n) e = absurd (never-both (n ∷ []) m 0 (sym e))
+same-listed (listed.Refused m) (listed.Refused n) e = let q : m ≡ n = cc in ap listed.Refused q

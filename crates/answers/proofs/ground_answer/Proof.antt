@@ -1,8 +1,8 @@
 -- `answers::ground_answer` meets its contract. Assumes nothing.
 use mathlib.Core.Path.{sym, ap, _∙_}
 use Rattle.ground.specs.declared.Generated.{Generated}
-use Rattle.ground.specs.Ground.{reply}
-use Rattle.answers.specs.Answers.{groundAnswer}
+use Rattle.ground.specs.Ground.{saysGenerated}
+use Rattle.answers.specs.Answers.{answerOf}
 use borrow.Author.Needs.{needs}
 use Rattle.answers.proofs.ground_answer.Statement.{statement}
 use Rattle.answers.proofs.ground_answer.Tie as tie
@@ -23,10 +23,10 @@ refused-requires : tie.Need-refused-requires
 refused-requires c κs = search needs
 
 returns : tie.Need-returns
-returns c = c .accepted .ensures ∙ ap (λ (u : Generated). groundAnswer (reply u)) (sym (c .before .before .a .given .1))
+returns c = c .accepted .ensures ∙ ap (λ (u : Generated). answerOf (saysGenerated u)) (sym (c .before .before .a .given .1))
 
 returns-2 : tie.Need-returns-2
-returns-2 c = c .refused .ensures ∙ ap (λ (u : Generated). groundAnswer (reply u)) (sym (c .before .before .a2 .given .1))
+returns-2 c = c .refused .ensures ∙ ap (λ (u : Generated). answerOf (saysGenerated u)) (sym (c .before .before .a2 .given .1))
 
 pub ground-answer-spec : {M : Type 1} → statement M
 ground-answer-spec =

@@ -1,9 +1,8 @@
 -- `chunk::refuse_count` meets its contract. Assumes nothing.
+use mathlib.Core.Path.{sym}
 use native.Mathlib.Omega.{arith}
-use borrow.Author.Tests.{le-leb, lt-leb}
 use Rattle.grid.specs.Grid.{square-most, cube-most}
-use Rattle.config.specs.Refusals.{refusal}
-use Rattle.chunk.specs.Tests.{countOk, countRefusal}
+use Rattle.chunk.specs.Tests.{count-held, count-low, count-high, count-pass}
 use Rattle.chunk.proofs.refuse_count.Statement.{statement}
 use Rattle.chunk.proofs.refuse_count.Tie as tie
 
@@ -17,23 +16,19 @@ cast-volume : tie.Need-cast-volume
 cast-volume c = let h = cube-most _ (c .pre .0) in omega arith
 
 returns : tie.Need-returns
-unfolding countRefusal countOk refusal
-returns c = simp (lt-leb _ _ (c .if1 .taken))
+returns c = sym (count-held _ _ _ _ (c .if1 .taken))
 
 add-total : tie.Need-add-total
 add-total c = let h = cube-most _ (c .before .pre .0) in omega (arith, c .before .pre, c .if1 .left)
 
 returns-2 : tie.Need-returns-2
-unfolding countRefusal countOk refusal
-returns-2 c = simp (le-leb _ _ (c .before .if1 .left), lt-leb _ _ (c .if2 .taken))
+returns-2 c = sym (count-low _ _ _ _ (c .before .if1 .left) (c .if2 .taken))
 
 returns-3 : tie.Need-returns-3
-unfolding countRefusal countOk refusal
-returns-3 c = simp (le-leb _ _ (c .before .before .if1 .left), le-leb _ _ (c .before .if2 .left), lt-leb _ _ (c .if3 .taken))
+returns-3 c = sym (count-high _ _ _ _ (c .before .before .if1 .left) (c .before .if2 .left) (c .if3 .taken))
 
 returns-4 : tie.Need-returns-4
-unfolding countRefusal countOk refusal
-returns-4 c = simp (le-leb _ _ (c .before .before .if1 .left), le-leb _ _ (c .before .if2 .left), le-leb _ _ (c .if3 .left))
+returns-4 c = sym (count-pass _ _ _ _ (c .before .before .if1 .left) (c .before .if2 .left) (c .if3 .left))
 
 pub refuse-count-spec : {M : Type 1} → statement M
 refuse-count-spec =

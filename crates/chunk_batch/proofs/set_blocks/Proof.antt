@@ -7,8 +7,7 @@ use native.Mathlib.Omega.{arith}
 use lib.ListN.{length}
 use Rattle.grid.specs.Grid.{cube-most}
 use Rattle.chunk.specs.Tests.{Chunk, CountOk, chunkRefusal, chunk-passed, cube-of, count-passed}
-use Rattle.chunk.specs.Replies.{accepted}
-use Rattle.chunk.specs.Calls.{outcome}
+use Rattle.config.specs.Answers.{accepted, outcome}
 use Rattle.chunk.specs.Moves.{edit-input, edit-count, edit-done}
 use Rattle.chunk_batch.specs.Calls.{batchDoes}
 use Rattle.chunk_batch.proofs.set_blocks.Statement.{statement}
@@ -67,8 +66,8 @@ add-total c = search needs
 sub-total : tie.Need-sub-total
 sub-total c = counted (c .before .before .before .before .before .before .before) .low
 
-cast-t18 : tie.Need-cast-t18
-cast-t18 c =
+cast-total : tie.Need-cast-total
+cast-total c =
     let e = c .before .before .before .before .before .before .before in
     let h = counted e .high in
     let l = cube-most _ (passed (first e) .most) in
@@ -103,6 +102,6 @@ set-blocks-spec =
     lay-groups-requires
     add-total
     sub-total
-    cast-t18
+    cast-total
     same-length-2
     returns-3)

@@ -3,7 +3,7 @@ use mathlib.Core.Path.{sym, ap, _∙_}
 use Prim.Native.Nat.{ℕ}
 use mathlib.Core.List.{List, []}
 use borrow.Author.Needs.{needs}
-use Rattle.chunk.specs.Replies.{accepted, refused, is-refused, not-refused}
+use Rattle.config.specs.Answers.{accepted, refusedWith, is-refused, not-refused}
 use Rattle.chunk.specs.Tests.{cube-of}
 use Rattle.chunk_border.specs.Border.{bordered, borderDoes, border-passed}
 use Rattle.chunk_border.proofs.extract_border.Statement.{statement}
@@ -16,7 +16,7 @@ returns : tie.Need-returns
 unfolding borderDoes
 returns c =
     let e = c .before .refuse-border .ensures in
-    ap (λ (k : ℕ). bordered (refused k) (c .before .before .before .before .args .border .now)) e ∙ sym (is-refused _ _ _ (λ q. c .if1 .taken (e ∙ q)))
+    ap (λ (k : ℕ). bordered (refusedWith k) (c .before .before .before .before .args .border .now)) e ∙ sym (is-refused _ _ _ (λ q. c .if1 .taken (e ∙ q)))
 
 copy-border-requires : tie.Need-copy-border-requires
 copy-border-requires c κs =

@@ -5,9 +5,8 @@ use native.Mathlib.Omega.{arith}
 use mathlib.Core.List.{List, [], _∷_}
 use borrow.Author.Needs.{needs}
 use Rattle.grid.specs.Count.{count-most}
-use Rattle.chunk.specs.Replies.{accepted, refused, is-refused, not-refused}
+use Rattle.config.specs.Answers.{accepted, refusedWith, is-refused, not-refused, outcome}
 use Rattle.chunk.specs.Tests.{chunk-most}
-use Rattle.chunk.specs.Calls.{outcome}
 use Rattle.chunk_edit.specs.Calls.{replaceDoes, replace-passed}
 use Rattle.chunk_edit.proofs.replace_blocks.Statement.{statement}
 use Rattle.chunk_edit.proofs.replace_blocks.Tie as tie
@@ -19,7 +18,7 @@ returns : tie.Need-returns
 unfolding replaceDoes
 returns c =
     let e = c .before .refuse-replace .ensures in
-    ap (λ (k : ℕ). outcome (refused k) (c .before .before .before .before .args .cells .now)) e ∙ sym (is-refused _ _ _ (λ q. c .if1 .taken (e ∙ q)))
+    ap (λ (k : ℕ). outcome (refusedWith k) (c .before .before .before .before .args .cells .now)) e ∙ sym (is-refused _ _ _ (λ q. c .if1 .taken (e ∙ q)))
 
 copy-requires : tie.Need-copy-requires
 copy-requires c κs = let h = replace-passed _ _ _ (sym (c .before .before .refuse-replace .ensures) ∙ c .before .if1 .left) in h .chunk .all ∙ sym (h .new)

@@ -5,7 +5,7 @@ use native.Mathlib.Omega.{arith}
 use mathlib.Core.List.{[], _∷_}
 use lib.ListN.{getD}
 use borrow.Author.Needs.{needs}
-use Rattle.chunk.specs.Replies.{accepted, refused, is-refused, not-refused}
+use Rattle.config.specs.Answers.{accepted, refusedWith, is-refused, not-refused}
 use Rattle.chunk.specs.Tests.{cell-passed, cell-at, chunk-most}
 use Rattle.chunk_look.specs.Calls.{getDoes}
 use Rattle.chunk_look.proofs.get.Statement.{statement}
@@ -16,7 +16,7 @@ refuse-cell-requires c κs = search needs
 
 returns : tie.Need-returns
 unfolding getDoes
-returns c = let e = c .before .refuse-cell .ensures in ap refused e ∙ sym (is-refused _ _ _ (λ q. c .if1 .taken (e ∙ q)))
+returns c = let e = c .before .refuse-cell .ensures in ap refusedWith e ∙ sym (is-refused _ _ _ (λ q. c .if1 .taken (e ∙ q)))
 
 cell-index-requires : tie.Need-cell-index-requires
 cell-index-requires c κs =

@@ -6,7 +6,8 @@ use mathlib.Core.List.{[], _∷_}
 use lib.Dec.{eqb}
 use lib.ListN.{getD}
 use borrow.Author.Needs.{needs}
-use Rattle.chunk.specs.Replies.{accepted, refused, is-refused, not-refused, yes}
+use Rattle.config.specs.Answers.{accepted, refusedWith, is-refused, not-refused}
+use Rattle.chunk.specs.Replies.{yes}
 use Rattle.chunk.specs.Tests.{cell-passed, cell-at, chunk-most}
 use Rattle.chunk_look.specs.Calls.{isAirDoes}
 use Rattle.chunk_look.proofs.is_air.Statement.{statement}
@@ -17,7 +18,7 @@ refuse-cell-requires c κs = search needs
 
 returns : tie.Need-returns
 unfolding isAirDoes
-returns c = let e = c .before .refuse-cell .ensures in ap refused e ∙ sym (is-refused _ _ _ (λ q. c .if1 .taken (e ∙ q)))
+returns c = let e = c .before .refuse-cell .ensures in ap refusedWith e ∙ sym (is-refused _ _ _ (λ q. c .if1 .taken (e ∙ q)))
 
 cell-index-requires : tie.Need-cell-index-requires
 cell-index-requires c κs =

@@ -4,7 +4,8 @@ use Prim.Native.Nat.{ℕ}
 use mathlib.Core.List.{[], _∷_}
 use lib.Dec.{eqb}
 use borrow.Author.Needs.{needs}
-use Rattle.chunk.specs.Replies.{accepted, refused, is-refused, not-refused, yes}
+use Rattle.config.specs.Answers.{accepted, refusedWith, is-refused, not-refused}
+use Rattle.chunk.specs.Replies.{yes}
 use Rattle.chunk_look.specs.Calls.{isEmptyDoes}
 use Rattle.chunk_look.proofs.is_empty.Statement.{statement}
 use Rattle.chunk_look.proofs.is_empty.Tie as tie
@@ -14,7 +15,7 @@ refuse-chunk-requires c κs = search needs
 
 returns : tie.Need-returns
 unfolding isEmptyDoes
-returns c = let e = c .before .refuse-chunk .ensures in ap refused e ∙ sym (is-refused _ _ _ (λ q. c .if1 .taken (e ∙ q)))
+returns c = let e = c .before .refuse-chunk .ensures in ap refusedWith e ∙ sym (is-refused _ _ _ (λ q. c .if1 .taken (e ∙ q)))
 
 count-non-air-requires : tie.Need-count-non-air-requires
 count-non-air-requires c κs = search needs

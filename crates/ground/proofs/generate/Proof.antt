@@ -3,16 +3,16 @@ use borrow.Author.Needs.{needs}
 use mathlib.Core.Path.{_≡_, sym, ap, ap₂, _∙_, subst}
 use Prim.Native.Nat.{ℕ}
 use native.Mathlib.Omega.{arith}
-use mathlib.Core.List.{List}
+use mathlib.Core.List.{List, [], _∷_}
 use lib.IntN.{pos}
 use lib.ListN.{length}
-use borrow.Author.Tests.{eq-eqb, ne-eqb}
+use Rattle.config.specs.Answers.{accepted, refusedWith, not-refused, is-refused, outcome}
 use Rattle.grid.specs.Cube.{Cube}
 use Rattle.grid.specs.Count.{nonAirCount, count-most}
 use Rattle.grid.specs.Grid.{cube-most}
 use Rattle.terrain.specs.World.{Tall, Near}
 use Rattle.terrain.specs.declared.world.Frame.{Frame}
-use Rattle.ground.specs.Ground.{groundIn, worldOf, frameOf, ground, generateRefusal, accepted, refused, outcome, generateDoes}
+use Rattle.ground.specs.Ground.{groundIn, worldOf, frameOf, ground, generateRefusal, generateDoes}
 use Rattle.ground.specs.Facts.{Sound, sound, tall-of, near-of}
 use Rattle.ground.proofs.generate.Statement.{statement}
 use Rattle.ground.proofs.generate.Tie as tie
@@ -28,7 +28,7 @@ returns c =
     let p = a .pos in
     let cs = a .cells .now in
     let e : c .before .refusal-of .result ≡ generateRefusal s p (length cs) = c .before .refusal-of .ensures in
-    rw (ne-eqb (generateRefusal s p (length cs)) 0 (λ h. c .if1 .taken (e ∙ h))) (ap (λ (k : ℕ). outcome (refused k 0) cs) e)
+    ap (λ (k : ℕ). outcome (refusedWith k) cs) e ∙ sym (is-refused _ _ _ (λ h. c .if1 .taken (e ∙ h)))
 
 world-of-requires : tie.Need-world-of-requires
 world-of-requires c κs =
@@ -103,8 +103,9 @@ returns-2 c =
     let k : c .before .before .lay-chunk .result ≡ nonAirCount laid = r .1 ∙ ap nonAirCount (sym (r .0)) in
     let g : laid ≡ groundIn (worldOf s) (frameOf s p) =
     r .0 ∙ ap₂ groundIn (c .before .before .before .before .before .world-of .ensures) (c .before .before .before .before .frame-of .ensures) in
-    rw (eq-eqb (generateRefusal s p (length cs)) 0 z)
-    (ap (λ (k : ℕ). outcome (accepted k) laid) k ∙ ap (λ (d : List ℕ). outcome (accepted (nonAirCount d)) d) g)
+    ap (λ (k : ℕ). outcome (accepted (k ∷ [])) laid) k
+    ∙ ap (λ (d : List ℕ). outcome (accepted (nonAirCount d ∷ [])) d) g
+    ∙ sym (not-refused _ _ _ z)
 
 pub generate-spec : {M : Type 1} → statement M
 generate-spec =

@@ -1,5 +1,5 @@
 -- `host::pl_generate` meets its contract. Assumes nothing.
-use Rattle.answers.specs.Answers.{generate-in-c}
+use Rattle.answers.specs.Answers.{edit-in-c}
 use borrow.Author.Needs.{needs}
 use Rattle.host.proofs.pl_generate.Statement.{statement}
 use Rattle.host.proofs.pl_generate.Tie as tie
@@ -14,7 +14,7 @@ same-length : tie.Need-same-length
 same-length c = search needs
 
 returns : tie.Need-returns
-returns c = generate-in-c _ _ _ _ (c .ground-answer .ensures) (c .before .before .before .generate .ensures)
+returns c = edit-in-c _ _ _ _ (c .ground-answer .ensures) (c .before .before .before .generate .ensures)
 
 pub pl-generate-spec : {M : Type 1} → statement M
 pl-generate-spec =

@@ -1,0 +1,44 @@
+-- What a call answers, and what it leaves of the cells. Assumes nothing.
+use mathlib.Core.Path.{_≡_, refl}
+use Prim.Native.Nat.{ℕ, zero, suc}
+use native.Mathlib.Omega.{arith}
+use mathlib.Core.List.{List}
+
+-- 01, Refused because of the input: "Each returns its number and a line number (0 except for 11 and 12 ..)".
+-- What is accepted has its values. An accepted and a refused answer are never one value, whatever the number.
+pub data Answer : Type 0 where
+  accepted : List ℕ → Answer
+  refused : (number line : ℕ) → Answer
+
+pub never-both : (values : List ℕ) (number line : ℕ) → accepted values ≡ refused number line → ⊥
+never-both values number line e = let z : _≡_ {A = ℕ} 0 1 = cc in omega arith
+
+-- a refusal that is not 11 or 12: its line is 0
+abbrev pub refusedWith : ℕ → Answer
+refusedWith n = refused n 0
+
+-- what is accepted where no test refuses, else what the refusal gives
+abbrev pub unlessRefused : {A : Type 0} → ℕ → A → (ℕ → A) → A
+unlessRefused zero good bad = good
+unlessRefused (suc n) good bad = bad (suc n)
+
+pub not-refused : {A : Type 0} (n : ℕ) (good : A) (bad : ℕ → A) → n ≡ 0 → unlessRefused n good bad ≡ good
+not-refused n good bad e = rw e
+
+pub is-refused : {A : Type 0} (n : ℕ) (good : A) (bad : ℕ → A) → (n ≡ 0 → ⊥) → unlessRefused n good bad ≡ bad n
+is-refused zero good bad e = absurd (e refl)
+is-refused (suc n) good bad e = refl
+
+-- ---- a call that changes cells
+
+-- its answer and the cells after it
+pub record Outcome : Type 0 where
+  pub answer : Answer
+  pub cells : List ℕ
+
+abbrev pub outcome : Answer → List ℕ → Outcome
+outcome a c = record { answer = a; cells = c }
+
+-- by the number of the first refusal: 0 turns the cells c into d and answers the values, any other leaves the cells as they were
+abbrev pub done : ℕ → List ℕ → List ℕ → List ℕ → Outcome
+done n values c d = unlessRefused n (outcome (accepted values) d) (λ (k : ℕ). outcome (refusedWith k) c)
