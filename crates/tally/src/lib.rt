@@ -60,10 +60,10 @@ fn count_window(cells: &[u16], base: usize, table: &mut [u32])
 }
 
 // 1 for an id that is listed, and 0 for air and for an id that no cell has.
-fn one_if_listed(id: usize, n: u32) -> usize
-    ensures { λ r. ⌜ r ≡ length (listIf id n id) ⌝ }
+fn one_if_listed(v: usize, n: u32) -> usize
+    ensures { λ r. ⌜ r ≡ length (listIf v n v) ⌝ }
 {
-    if id == 0 {
+    if v == 0 {
         return 0;
     }
     if n == 0 {

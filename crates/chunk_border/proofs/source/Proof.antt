@@ -23,8 +23,7 @@ cell-index-requires : tie.Need-cell-index-requires
 cell-index-requires c κs =
     let s = c .before .before in
     let h = side (s .args .size) (s .args .k) (s .pre .1) in
-    let p = h .least in
-    (s .pre .0, omega arith, h .v-in, h .u-in)
+    (s .pre .0, omega arith, omega arith, omega arith)
 
 enum-told-2 : tie.Need-enum-told-2
 enum-told-2 c = search needs
@@ -33,8 +32,7 @@ cell-index-requires-2 : tie.Need-cell-index-requires-2
 cell-index-requires-2 c κs =
     let s = c .before .before in
     let h = side (s .args .size) (s .args .k) (s .pre .1) in
-    let p = h .least in
-    (s .pre .0, h .least, h .v-in, h .u-in)
+    (s .pre .0, omega arith, omega arith, omega arith)
 
 enum-told-3 : tie.Need-enum-told-3
 enum-told-3 c = search needs
@@ -46,8 +44,7 @@ cell-index-requires-3 : tie.Need-cell-index-requires-3
 cell-index-requires-3 c κs =
     let s = c .before .before in
     let h = side (s .args .size) (s .args .k) (s .pre .1) in
-    let p = h .least in
-    (s .pre .0, h .u-in, omega arith, h .v-in)
+    (s .pre .0, omega arith, omega arith, omega arith)
 
 enum-told-4 : tie.Need-enum-told-4
 enum-told-4 c = search needs
@@ -56,8 +53,7 @@ cell-index-requires-4 : tie.Need-cell-index-requires-4
 cell-index-requires-4 c κs =
     let s = c .before .before in
     let h = side (s .args .size) (s .args .k) (s .pre .1) in
-    let p = h .least in
-    (s .pre .0, h .u-in, h .least, h .v-in)
+    (s .pre .0, omega arith, omega arith, omega arith)
 
 enum-told-5 : tie.Need-enum-told-5
 enum-told-5 c = search needs
@@ -69,8 +65,7 @@ cell-index-requires-5 : tie.Need-cell-index-requires-5
 cell-index-requires-5 c κs =
     let s = c .before .before in
     let h = side (s .args .size) (s .args .k) (s .pre .1) in
-    let p = h .least in
-    (s .pre .0, h .u-in, h .v-in, omega arith)
+    (s .pre .0, omega arith, omega arith, omega arith)
 
 enum-told-6 : tie.Need-enum-told-6
 enum-told-6 c = search needs
@@ -79,8 +74,7 @@ cell-index-requires-6 : tie.Need-cell-index-requires-6
 cell-index-requires-6 c κs =
     let s = c .before .before in
     let h = side (s .args .size) (s .args .k) (s .pre .1) in
-    let p = h .least in
-    (s .pre .0, h .u-in, h .v-in, h .least)
+    (s .pre .0, omega arith, omega arith, omega arith)
 
 returns : tie.Need-returns
 unfolding borderSource

@@ -6,13 +6,13 @@ use Rattle.tally.proofs.one_if_listed.Statement.{statement}
 use Rattle.tally.proofs.one_if_listed.Tie as tie
 
 returns : tie.Need-returns
-returns c = let a = c .before .args in sym (ap length (list-no-id (a .id) (a .n) (a .id) (c .if1 .taken)))
+returns c = let a = c .before .args in sym (ap length (list-no-id (a .v) (a .n) (a .v) (c .if1 .taken)))
 
 returns-2 : tie.Need-returns-2
-returns-2 c = let a = c .before .before .args in sym (ap length (list-no-cell (a .id) (a .n) (a .id) (c .if2 .taken)))
+returns-2 c = let a = c .before .before .args in sym (ap length (list-no-cell (a .v) (a .n) (a .v) (c .if2 .taken)))
 
 returns-3 : tie.Need-returns-3
-returns-3 c = let a = c .before .before .args in sym (ap length (list-one (a .id) (a .n) (a .id) (c .before .if1 .left) (c .if2 .left)))
+returns-3 c = let a = c .before .before .args in sym (ap length (list-one (a .v) (a .n) (a .v) (c .before .if1 .left) (c .if2 .left)))
 
 pub one-if-listed-spec : {M : Type 1} → statement M
 one-if-listed-spec = tie.close (tie.spec returns returns-2 returns-3)
