@@ -15,7 +15,8 @@ pub extern "C" fn pl_session_set(
     z: usize,
     id: u16,
 ) -> Reply
-    ensures { λ r. ⌜ outcome (now (session .exit)) r (now (cells .exit)) (now (journal .exit)) ≡ setDoes (now (session .entry)) (now (cells .entry)) (now (journal .entry)) x y z id ⌝ }
+    ensures { λ r. ⌜ outcome (now (session .exit)) r (now (cells .exit)) (now (journal .exit))
+        ≡ setDoes (now (session .entry)) (now (cells .entry)) (now (journal .entry)) x y z id ⌝ }
 {
     let b = session::set(*session, cells, journal, x, y, z, id);
     *session = b.session;
@@ -32,7 +33,8 @@ pub extern "C" fn pl_session_fill_column(
     height: usize,
     id: u16,
 ) -> Reply
-    ensures { λ r. ⌜ outcome (now (session .exit)) r (now (cells .exit)) (now (journal .exit)) ≡ columnDoes (now (session .entry)) (now (cells .entry)) (now (journal .entry)) x z height id ⌝ }
+    ensures { λ r. ⌜ outcome (now (session .exit)) r (now (cells .exit)) (now (journal .exit))
+        ≡ columnDoes (now (session .entry)) (now (cells .entry)) (now (journal .entry)) x z height id ⌝ }
 {
     let b = session::fill_column(*session, cells, journal, x, z, height, id);
     *session = b.session;
@@ -46,7 +48,8 @@ pub extern "C" fn pl_session_set_blocks(
     journal: &mut [u8],
     edits: &[u32],
 ) -> Reply
-    ensures { λ r. ⌜ outcome (now (session .exit)) r (now (cells .exit)) (now (journal .exit)) ≡ batchDoes (now (session .entry)) (now (cells .entry)) (now (journal .entry)) (now (edits .entry)) ⌝ }
+    ensures { λ r. ⌜ outcome (now (session .exit)) r (now (cells .exit)) (now (journal .exit))
+        ≡ batchDoes (now (session .entry)) (now (cells .entry)) (now (journal .entry)) (now (edits .entry)) ⌝ }
 {
     let b = session_batch::set_blocks(*session, cells, journal, edits);
     *session = b.session;
@@ -59,7 +62,8 @@ pub extern "C" fn pl_session_undo(
     cells: &mut [u16],
     journal: &mut [u8],
 ) -> Reply
-    ensures { λ r. ⌜ outcome (now (session .exit)) r (now (cells .exit)) (now (journal .exit)) ≡ undoDoes (now (session .entry)) (now (cells .entry)) (now (journal .entry)) ⌝ }
+    ensures { λ r. ⌜ outcome (now (session .exit)) r (now (cells .exit)) (now (journal .exit))
+        ≡ undoDoes (now (session .entry)) (now (cells .entry)) (now (journal .entry)) ⌝ }
 {
     let b = undo::undo(*session, cells, journal);
     *session = b.session;

@@ -86,7 +86,8 @@ same-some a b e = cc
 never : {X : Type 0} (b : Active) → none ≡ some b → X
 never b e = let z : _≡_ {A = ℕ} 0 1 = cc in absurd (omega arith)
 
-edit-gives : (m : Model) (e : Edit) (b : Active) → after (m .active) (edits e) ≡ some b → length (ended (editText e)) ≤ left m → Gives m (modelEdit m (asks e)) b (editText e)
+edit-gives : (m : Model) (e : Edit) (b : Active) → after (m .active) (edits e) ≡ some b → length (ended (editText e)) ≤ left m
+    → Gives m (modelEdit m (asks e)) b (editText e)
 unfolding after modelEdit
 edit-gives m e b a h =
     by-bool (ltb (length (m .active .edits)) 256)
@@ -105,15 +106,20 @@ after-undo : (a b : Active) → after a undoes ≡ some b → dropLast (a .edits
 unfolding after
 after-undo a b e = e
 
+-- .. which the model reads as that edit
+line-asked : (m : Model) (e : Edit) (k : Asked) (b : Active) → k ≡ asks e → after (m .active) (edits e) ≡ some b → length (ended (editText e)) ≤ left m
+    → Gives m (modelEdit m k) b (editText e)
+line-asked m e k b q a h = rw q (edit-gives m e b a h)
+
 line-gives : (m : Model) (d : Line) (p : LineOk (modelSize m) d) (b : Active) → after (m .active) d ≡ some b → length (ended (saidText d)) ≤ left m
     → Gives m (modelStep m (callOf (modelSize m) d p)) b (saidText d)
 unfolding modelStep
 line-gives m (edits (set x y z id)) p b a h =
-    subst (λ (k : Asked). Gives m (modelEdit m k) b (editText (set x y z id))) (sym (asked (modelSize m) (set x y z id) p)) (edit-gives m (set x y z id) b a h)
+    line-asked m (set x y z id) _ b (asked (modelSize m) (set x y z id) p) a h
 line-gives m (edits (column x z height id)) p b a h =
-    subst (λ (k : Asked). Gives m (modelEdit m k) b (editText (column x z height id))) (sym (asked (modelSize m) (column x z height id) p)) (edit-gives m (column x z height id) b a h)
+    line-asked m (column x z height id) _ b (asked (modelSize m) (column x z height id) p) a h
 line-gives m (edits (batch gs)) p b a h =
-    subst (λ (k : Asked). Gives m (modelEdit m k) b (editText (batch gs))) (sym (asked (modelSize m) (batch gs) p)) (edit-gives m (batch gs) b a h)
+    line-asked m (batch gs) _ b (asked (modelSize m) (batch gs) p) a h
 line-gives m undoes p b a h = undo-gives m b (m .active .edits) (after-undo (m .active) b a) h
 line-gives m wrong p b a h = absurd p
 
@@ -236,7 +242,8 @@ by-header c s used loose many trailing borrowed r g ls none e f w a = not-opened
 by-header c s used loose many trailing borrowed r g ls (some h) e f w a =
     by-bool (eqb (limitRefusal h) 0)
     (λ l. by-bool (eqb (length c) (cube (natAbs (h .«chunk_size»))))
-    (λ d. by-lines c s used loose many trailing borrowed r g ls h (follow (natAbs (h .«chunk_size»)) 2 (active []) ls) e f (eqb-true _ _ l) w refl (rw (l, d) at a))
+    (λ d. by-lines c s used loose many trailing borrowed r g ls h (follow (natAbs (h .«chunk_size»)) 2 (active []) ls) e f (eqb-true _ _ l) w refl
+    (rw (l, d) at a))
     (λ d. not-opened 6 0 many trailing r (rw (l, d) at a)))
     (λ l. not-opened (limitRefusal h) 0 many trailing r (rw l at a))
 
