@@ -8,6 +8,7 @@ use lib.ListN.{length, take}
 use denote.Ref.{now}
 use Rattle.config.specs.Limits.{configHeader}
 use Rattle.format.specs.Line.{headerText, ended}
+use Rattle.format.specs.Journal as J
 use Rattle.calls.specs.declared.Session.{Session}
 use Rattle.calls.specs.declared.Reply.{Reply}
 use Rattle.calls.specs.declared.Reopened.the-variants.{Opened, Refused}
@@ -31,12 +32,13 @@ module _ {s t : Tablet} {calls : List Call} {rs : List Reply} (made : Made s cal
     pub beyond : (n : ℕ) → count < n → n ≤ length calls → q < after n made .session .used
 
   pub record TakenOver (confirmed q : ℕ) (o : Second) : Type 1 where
-    -- reopening is accepted; all that is held behind the used bytes is trailing
+    -- reopening is accepted, and tells the whole lines and the trailing bytes, which are all that is held behind the used ones
     pub session : Session
     pub lines : ℕ
     pub trailing : ℕ
     pub answer : o .answer ≡ Opened session lines trailing
-    pub loose : session .used + trailing ≡ o .held
+    pub lines-are : lines ≡ length (J.lines (usedBytes (resumes o session)))
+    pub trailing-are : session .used + trailing ≡ o .held
     -- the second has the record, cells, used journal bytes and active edits that the first had after that call
     pub count : ℕ
     pub whole : LastWhole q count

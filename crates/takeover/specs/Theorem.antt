@@ -1,16 +1,17 @@
 -- The takeover theorem, proved: what was made is what the calls' definitions give one after the other, and the theorem over the definitions
 -- (recovery's `Takeover`) is carried over. Assumes nothing.
 use mathlib.Core.Path.{_≡_, refl, sym, _∙_, ap, subst}
-use mathlib.Core.List.{List, [], _∷_, _++_}
-use Prim.Native.Nat.{ℕ, zero, suc, _+_, _≤_, _<_}
+use mathlib.Core.List.{List, _∷_}
+use Prim.Native.Nat.{ℕ, zero, suc, _≤_, _<_}
 use native.Mathlib.Omega.{arith}
 use lib.ListN.{length, take}
 use denote.Ref.{now}
 use Rattle.config.specs.Limits.{configHeader}
 use Rattle.format.specs.Line.{headerText}
+use Rattle.format.specs.Journal as J
 use Rattle.format.specs.Lines.{NoLF, noLF-append}
 use Rattle.format.specs.RoundTrip.{header-noLF}
-use Rattle.calls.specs.Calls.{Outcome, Begun, freshDoes, Resumed, resumed, reopenDoes}
+use Rattle.calls.specs.Calls.{Outcome, Begun, freshDoes, Resumed, resumed}
 use Rattle.calls.specs.declared.Reply.{Reply}
 use Rattle.calls.specs.declared.Reopened.the-variants.{Refused}
 use Rattle.recovery.specs.Model.{Call, modelFresh, modelRun}
@@ -21,7 +22,7 @@ use Rattle.recovery.specs.Steps.{Holds}
 use Rattle.recovery.specs.Open.{Fresher, fresh-holds, reopens-none}
 use Rattle.recovery.specs.Takeover.{Taken, taken, first-cut, Along, along, as-model, laid-on, same-replies}
 use Rattle.takeover.specs.Contracts.{Made, none, set, column, batch, undo, form, after, gave, First, began, Second, resumes}
-use Rattle.takeover.specs.Demand.{model, firstLine, LastWhole, TakenOver, Takeover, Demand, TakeoverTheorem}
+use Rattle.takeover.specs.Demand.{model, firstLine, TakenOver, TakeoverTheorem}
 
 -- ---- what was made is what `run` and `replies` say
 
@@ -123,7 +124,8 @@ module _ (f : First) {calls : List Call} {rs : List Reply} {t : Tablet} (made : 
           lines = k .lines;
           trailing = k .trailing;
           answer = ap (λ (r : Resumed). r .answer) e;
-          loose = k .loose;
+          lines-are = k .lines-are ∙ ap (λ (u : Tablet). length (J.lines (usedBytes u))) (sym second);
+          trailing-are = k .loose;
           count = k .count;
           whole = record {
             most = k .most;

@@ -1,5 +1,5 @@
 -- `openmap_streams::read_some` meets its contract. The part ends where the buffer does, and what lies before it is not lent. Assumes nothing.
-use mathlib.Core.Path.{_≡_, sym, _∙_, subst}
+use mathlib.Core.Path.{sym, subst}
 use Prim.Native.Nat.{ℕ, _-_}
 use native.Mathlib.Omega.{arith}
 use lib.ListN.{length}

@@ -14,7 +14,6 @@ use borrow.Author.Tests.{ltb-true, ne-eqb}
 use borrow.Author.Needs.{needs}
 use Rattle.libc.specs.Io.{Moved}
 use Rattle.io.specs.Counts.{clamped}
-use Rattle.openmap_streams.specs.declared.Step.{Step}
 use Rattle.openmap_streams.specs.declared.Step.the-variants.{At}
 use Rattle.openmap_streams.specs.Steps.{interrupted, broken, went, stepOf}
 use Rattle.openmap_streams.proofs.step_by.Statement.{statement}
