@@ -38,7 +38,8 @@ pub see-inside : (s x y z : ℕ) (c : List ℕ) → Inside s x y z → seeAt s x
 unfolding seeAt
 see-inside s x y z c h = rw (in-all s x y z (h .x-in) (h .y-in) (h .z-in))
 
-pub put-count : (s x y z v : ℕ) (c : List ℕ) → length c ≡ s * s * s → Inside s x y z → nonAirCount (putAt s x y z v c) + nonAir (seeAt s x y z c) ≡ nonAirCount c + nonAir v
+pub put-count : (s x y z v : ℕ) (c : List ℕ) → length c ≡ s * s * s → Inside s x y z
+    → nonAirCount (putAt s x y z v c) + nonAir (seeAt s x y z c) ≡ nonAirCount c + nonAir v
 put-count s x y z v c l h =
     ap₂ (λ (d : List ℕ). λ (k : ℕ). nonAirCount d + nonAir k) (put-inside s x y z v c h) (see-inside s x y z c h)
     ∙ count-set c (cellIndex s x y z) v (let i = index-lt s x y z (h .x-in) (h .y-in) (h .z-in) in omega arith)
@@ -158,7 +159,8 @@ module _ (input size count : ℕ) (v c d : List ℕ) (p q : ℕ) (none : input �
 pub right-count : (c d : List ℕ) → nonAirCount c + nonAirCount d - nonAirCount c ≡ nonAirCount d
 right-count c d = omega arith
 
-pub right-passes : (size : ℕ) (c d : List ℕ) → length c ≡ size * size * size → length d ≡ size * size * size → countRefusal size (nonAirCount c) (nonAirCount c) (nonAirCount d) ≡ 0
+pub right-passes : (size : ℕ) (c d : List ℕ) → length c ≡ size * size * size → length d ≡ size * size * size
+    → countRefusal size (nonAirCount c) (nonAirCount c) (nonAirCount d) ≡ 0
 right-passes size c d hc hd =
     let a = count-most c in
     let b = count-most d in
@@ -188,7 +190,8 @@ height-inside s x z h y l = at (ltb x s) refl (ltb z s) refl l
 -- the list of a list's elements
 pub tab-list : (c : List ℕ) → tab (length c) (λ (k : ℕ). getD c k 0) ≡ c
 tab-list c =
-    ext-getD 0 _ c (tab-length (length c) (λ (k : ℕ). getD c k 0)) (λ i h. tab-at (length c) (λ (k : ℕ). getD c k 0) i (let e = tab-length (length c) (λ (k : ℕ). getD c k 0) in omega arith))
+    ext-getD 0 _ c (tab-length (length c) (λ (k : ℕ). getD c k 0))
+    (λ i h. tab-at (length c) (λ (k : ℕ). getD c k 0) i (let e = tab-length (length c) (λ (k : ℕ). getD c k 0) in omega arith))
 
 -- ---- what a set and a column move
 
@@ -205,7 +208,8 @@ pub set-lays : (size x y z id i : ℕ) (c : List ℕ) → CellOk size (length c)
 set-lays size x y z id i c h ei = ap (λ (k : ℕ). set c k id) ei ∙ sym (put-inside size x y z id c (h .cell))
 
 pub fill-moves :
-    (size x z height id h p q : ℕ) (c : List ℕ) → length c ≡ size * size * size → h ≡ columnHeight size x z height → p ≡ columnCount size x z h c → q ≡ h * nonAir id
+    (size x z height id h p q : ℕ) (c : List ℕ) → length c ≡ size * size * size → h ≡ columnHeight size x z height → p ≡ columnCount size x z h c
+    → q ≡ h * nonAir id
     → nonAirCount (fillCells size x z height id c) + p ≡ nonAirCount c + q
 unfolding fillCells
 fill-moves size x z height id h p q c l eh ep eq =
@@ -213,7 +217,8 @@ fill-moves size x z height id h p q c l eh ep eq =
     let t = ap (λ (k : ℕ). nonAirCount (layColumn size x z k id c)) eh in
     omega arith
 
-pub fill-lays : (size x z height id h : ℕ) (c d : List ℕ) → h ≡ columnHeight size x z height → d ≡ layColumn size x z h id c → d ≡ fillCells size x z height id c
+pub fill-lays : (size x z height id h : ℕ) (c d : List ℕ) → h ≡ columnHeight size x z height → d ≡ layColumn size x z h id c
+    → d ≡ fillCells size x z height id c
 unfolding fillCells
 fill-lays size x z height id h c d eh ed = ed ∙ ap (λ (k : ℕ). layColumn size x z k id c) eh
 

@@ -8,6 +8,7 @@ use lib.Dec.{T, ltb, leb, eqb}
 use lib.IntN.{pos}
 use lib.ListN.{length}
 use borrow.Author.Tests.{leb-true, eqb-true, ltb-true, le-leb, lt-leb}
+use Rattle.text.specs.Pick.{and-both}
 use Rattle.grid.specs.Cube.{Cube, cellIndex, inside}
 use Rattle.grid.specs.Grid.{index-lt, cube-most}
 use Rattle.config.specs.Refusals.{must, passed, refusal, refusal-zero, passed-zero, passed-on, passed-stop, refusal-none, refusal-pass, refusal-stop}
@@ -63,10 +64,6 @@ then-pass size n b k e f = passed-on (chunkRefusal size n) (must b k ∷ []) e �
 
 -- ---- what holds where none of them answers
 
-both-true : (a b : Bool) → a && b ≡ true → (a ≡ true) × (b ≡ true)
-both-true true b e = (refl, e)
-both-true false b e = absurd (subst T (sym e) tt)
-
 pub record Chunk (size n : ℕ) : Type 0 where
   pub least : 1 ≤ size
   pub most : size ≤ 64
@@ -95,7 +92,8 @@ pub inside-true : (size x y z : ℕ) → inside size x y z ≡ true → Inside s
 unfolding inside
 inside-true size x y z e = at (ltb x size) refl (ltb y size) refl (ltb z size) refl e
   where
-    at : (a : Bool) → ltb x size ≡ a → (b : Bool) → ltb y size ≡ b → (d : Bool) → ltb z size ≡ d → mathlib.Core.Bool.cond a (mathlib.Core.Bool.cond b d false) false ≡ true → Inside size x y z
+    at : (a : Bool) → ltb x size ≡ a → (b : Bool) → ltb y size ≡ b → (d : Bool) → ltb z size ≡ d
+        → mathlib.Core.Bool.cond a (mathlib.Core.Bool.cond b d false) false ≡ true → Inside size x y z
     at true p true q true r e = record { x-in = ltb-true x size p; y-in = ltb-true y size q; z-in = ltb-true z size r }
     at true p true q false r e = absurd (subst T (sym e) tt)
     at true p false q d r e = absurd (subst T (sym e) tt)
@@ -129,6 +127,6 @@ pub count-passed : (size count before after : ℕ) → countRefusal size count b
 unfolding countRefusal countOk
 count-passed size count before after e =
     let p = refusal-zero (countOk size count before after) 20 [] e in
-    let q = both-true (leb count (size * size * size)) (leb before (count + after) && leb (count + after - before) (size * size * size)) (p .0) in
-    let r = both-true (leb before (count + after)) (leb (count + after - before) (size * size * size)) (q .1) in
+    let q = and-both (leb count (size * size * size)) (leb before (count + after) && leb (count + after - before) (size * size * size)) (p .0) in
+    let r = and-both (leb before (count + after)) (leb (count + after - before) (size * size * size)) (q .1) in
     record { held = leb-true _ _ (q .0); low = leb-true _ _ (r .0); high = leb-true _ _ (r .1) }

@@ -20,7 +20,8 @@ use Rattle.features.specs.Features.{insetIn, pillarStep, pillarOf, bould
 use Rattle.features.specs.Features.{leafAt, offsetOr, hasLeaf, leafStep, layerStep, layerOf, leafRadius, layersOf, canopyStep, canopyOf, growOf}
 use Rattle.features.specs.Features.{trunkHeight, crownOf, plantOf, treeHash, varietyOf, treeGrows, isGiant, placeTree, treeColumn, treeStep, treesOf}
 
-module _ (R : List ℕ → List ℕ → Type 0) (same : (c : List ℕ) → R c c) (more : (a b c : List ℕ) → R a b → R b c → R a c) (one : (c : List ℕ) (i v : ℕ) → 0 < v → v < 65536 → R c (set c i v)) where
+module _ (R : List ℕ → List ℕ → Type 0) (same : (c : List ℕ) → R c c) (more : (a b c : List ℕ) → R a b → R b c → R a c)
+    (one : (c : List ℕ) (i v : ℕ) → 0 < v → v < 65536 → R c (set c i v)) where
   if : (b : Bool) (c x y : List ℕ) → R c x → R c y → R c (cond b x y)
   if true c x y p q = p
   if false c x y p q = q
@@ -52,13 +53,16 @@ module _ (R : List ℕ → List ℕ → Type 0) (same : (c : List ℕ) → R c c
 
   leaf-kept : (s x y z : ℕ) (c : List ℕ) → R c (leafAt s x y z c)
   unfolding leafAt
-  leaf-kept s x y z c = if (inside s x y z) c _ c (if (eqb (getD c (cellIndex s x y z) 0) 0) c _ c (one c (cellIndex s x y z) 9 (omega arith) (omega arith)) (same c)) (same c)
+  leaf-kept s x y z c =
+      if (inside s x y z) c _ c
+      (if (eqb (getD c (cellIndex s x y z) 0) 0) c _ c (one c (cellIndex s x y z) 9 (omega arith) (omega arith)) (same c)) (same c)
 
   layer-kept : (s x z : ℕ) (wx wz : ℤ) (y r l : ℕ) (c : List ℕ) → R c (layerOf s x z wx wz y r l c)
   unfolding layerOf layerStep leafStep
   layer-kept s x z wx wz y r l c =
       steps-kept _ (layerStep s x z wx wz y r l) c
-      (λ k d. if (hasLeaf wx wz r l (k / (2 * r + 1)) (k % (2 * r + 1))) d _ d (leaf-kept s (offsetOr s x (k / (2 * r + 1)) r) y (offsetOr s z (k % (2 * r + 1)) r) d) (same d))
+      (λ k d. if (hasLeaf wx wz r l (k / (2 * r + 1)) (k % (2 * r + 1))) d _ d
+      (leaf-kept s (offsetOr s x (k / (2 * r + 1)) r) y (offsetOr s z (k % (2 * r + 1)) r) d) (same d))
 
   grow-kept : (s : ℕ) (oy : ℤ) (x z : ℕ) (wx wz : ℤ) (y : ℕ) (trunk : ℤ) (r n : ℕ) (c : List ℕ) → R c (growOf s oy x z wx wz y trunk r n c)
   unfolding growOf canopyOf canopyStep
@@ -81,7 +85,8 @@ module _ (R : List ℕ → List ℕ → Type 0) (same : (c : List ℕ) → R c c
       if (insetIn 2 (o .size) x z) c _ c
       (if (ltZ (pos (t .height) -ℤ sea) (pos 3)) c c _ (same c)
       (if (treeGrows (t .biome) (treeHash wx wz)) c _ c
-      (if (eqb (seeAt (o .size) x (localY (o .size) (o .oy) (pos (t .height - 1))) z c) 3) c _ c (plant-kept (o .size) (o .oy) x z wx wz (t .height) (isGiant (t .biome) (varietyOf wx wz)) (varietyOf wx wz) c) (same c)) (same c)))
+      (if (eqb (seeAt (o .size) x (localY (o .size) (o .oy) (pos (t .height - 1))) z c) 3) c _ c
+      (plant-kept (o .size) (o .oy) x z wx wz (t .height) (isGiant (t .biome) (varietyOf wx wz)) (varietyOf wx wz) c) (same c)) (same c)))
       (same c)
 
   pub trees-kept : (o : Frame) (sea : ℤ) (t : ℕ → Top) (c : List ℕ) → R c (treesOf o sea t c)
@@ -94,7 +99,8 @@ pub record Grown (c d : List ℕ) : Type 0 where
   pub ids : ((i : ℕ) → getD c i 0 < 65536) → (i : ℕ) → getD d i 0 < 65536
   pub full : (i : ℕ) → 0 < getD c i 0 → 0 < getD d i 0
 
-set-ids : (c : List ℕ) (j v i : ℕ) → v < 65536 → getD c i 0 < 65536 → (a : Bool) → ltb i (length (set c j v)) ≡ a → (b : Bool) → eqb i j ≡ b → getD (set c j v) i 0 < 65536
+set-ids : (c : List ℕ) (j v i : ℕ) → v < 65536 → getD c i 0 < 65536 → (a : Bool) → ltb i (length (set c j v)) ≡ a → (b : Bool) → eqb i j ≡ b
+    → getD (set c j v) i 0 < 65536
 set-ids c j v i hv h false e b d = subst (λ (u : ℕ). u < 65536) (sym (List·getD-eq-default (set c j v) 0 {n = i} (ltb-false i _ e))) (omega arith)
 set-ids c j v i hv h true e true d =
     let q : i ≡ j = eqb-true i j d in
@@ -119,7 +125,11 @@ grown-more a b c p q = record { long = q .long ∙ p .long; ids = λ h. q .ids (
 
 grown-one : (c : List ℕ) (j v : ℕ) → 0 < v → v < 65536 → Grown c (set c j v)
 grown-one c j v p q =
-    record { long = length-set c j v; ids = λ h i. set-ids c j v i q (h i) (ltb i (length (set c j v))) refl (eqb i j) refl; full = λ i h. set-full c j v i p h (ltb i (length c)) refl (eqb i j) refl }
+    record {
+      long = length-set c j v;
+      ids = λ h i. set-ids c j v i q (h i) (ltb i (length (set c j v))) refl (eqb i j) refl;
+      full = λ i h. set-full c j v i p h (ltb i (length c)) refl (eqb i j) refl;
+    }
 
 pub grown-boulders : (o : Frame) (t : ℕ → Top) (c : List ℕ) → Grown c (bouldersOf o t c)
 grown-boulders o t c = boulders-kept Grown grown-same grown-more grown-one o t c

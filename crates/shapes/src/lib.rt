@@ -1,7 +1,8 @@
 // The noise and the curves that a column's climate and heights are made of: what `get_biome` of terrain.rs begins with. `offset_fbm`, `scaled_fbm`,
 // `ridges` and `continent` are of its plain form alone; rows of columns (`column_rows`) have theirs, equal to the same definitions.
 ghost use mathlib.Core.Path.{_≡_};
-ghost use Rattle.shapes.specs.Shapes.{offsetFbm₃₂, scaledFbm₃₂, smoothRamp₃₂, ridge₃₂, ridgesOf, ridges₃₂, plateau₃₂, continent₃₂, hillBoost₃₂, coldBoost₃₂, clampOf};
+ghost use Rattle.shapes.specs.Shapes.{offsetFbm₃₂, scaledFbm₃₂, smoothRamp₃₂, ridge₃₂, ridgesOf, ridges₃₂};
+ghost use Rattle.shapes.specs.Shapes.{plateau₃₂, continent₃₂, hillBoost₃₂, coldBoost₃₂, clampOf};
 use noise::fbm2d;
 use words::num::abs;
 use words::num::clamp;

@@ -5,20 +5,16 @@ use native.Mathlib.Omega.{arith}
 use mathlib.Core.Bool.{Bool, true, false, _&&_}
 use mathlib.Core.List.{List, [], _∷_, _++_}
 use mathlib.Core.Logic.{⊎-elim}
-use lib.Dec.{T, ltb}
+use lib.Dec.{ltb}
 use lib.ListN.{length, getD, drop, length-append, length-drop, List·getD-append}
 use lib.Seq.{drop-at, getD-at}
 use borrow.Author.Tests.{lt-ltb, ltb-true, ltb-false, le-leb, lt-leb}
-use Rattle.text.specs.Pick.{pick}
+use Rattle.text.specs.Pick.{pick, and-both}
 use Rattle.tally.specs.Ids.{listIf, span, idCount, presentIds, presentCounts}
 use Rattle.tally.specs.Spans.{last-case, span-length}
 use Rattle.tally.specs.Tally.{Place, Listing, Past, Tallied, tallyRefusal}
 use Rattle.config.specs.Answers.{accepted, refusedWith, is-refused, not-refused}
 use Rattle.chunk.specs.Tests.{chunkRefusal, then-chunk, then-stop, then-pass}
-
-both-true : (a b : Bool) → a && b ≡ true → (a ≡ true) × (b ≡ true)
-both-true true b e = (refl, e)
-both-true false b e = absurd (subst T (sym e) tt)
 
 abbrev idsTo : ℕ → (ℕ → ℕ) → List ℕ
 idsTo m f = span 0 m f (λ (v : ℕ). v)
@@ -34,9 +30,11 @@ unfolding span
 own zero f i h = absurd (omega arith)
 own (suc m) f i h =
     ⊎-elim
-    (λ w. subst (λ (v : ℕ). Own (suc m) f v) (sym (w .is)) (let o = own m f i (w .lt) in let k = o .high in record { low = o .low; high = omega arith; some = o .some }))
     (λ w. subst (λ (v : ℕ). Own (suc m) f v) (sym (w .is))
-    (let t = both-true (ltb 0 (0 + m)) (ltb 0 (f (0 + m))) (w .on) in record { low = ltb-true 0 (0 + m) (t .0); high = omega arith; some = ltb-true 0 (f (0 + m)) (t .1) }))
+    (let o = own m f i (w .lt) in let k = o .high in record { low = o .low; high = omega arith; some = o .some }))
+    (λ w. subst (λ (v : ℕ). Own (suc m) f v) (sym (w .is))
+    (let t = and-both (ltb 0 (0 + m)) (ltb 0 (f (0 + m))) (w .on) in
+    record { low = ltb-true 0 (0 + m) (t .0); high = omega arith; some = ltb-true 0 (f (0 + m)) (t .1) }))
     (last-case (idsTo m f) (ltb 0 (0 + m) && ltb 0 (f (0 + m))) (0 + m) i h)
 
 up : (m : ℕ) (f : ℕ → ℕ) (i j : ℕ) → i < j → j < length (idsTo m f) → getD (idsTo m f) i 0 < getD (idsTo m f) j 0
@@ -45,7 +43,10 @@ up zero f i j l h = absurd (omega arith)
 up (suc m) f i j l h =
     let b : Bool = ltb 0 (0 + m) && ltb 0 (f (0 + m)) in
     ⊎-elim
-    (λ w. let q = List·getD-append (idsTo m f) (pick b ((0 + m) ∷ []) []) 0 i (let k = w .lt in omega arith) in let r = w .is in let k = up m f i j l (w .lt) in omega arith)
+    (λ w. let q = List·getD-append (idsTo m f) (pick b ((0 + m) ∷ []) []) 0 i (let k = w .lt in omega arith) in
+    let r = w .is in
+    let k = up m f i j l (w .lt) in
+    omega arith)
     (λ w.
     let k : i < length (idsTo m f) = (let e = w .at in omega arith) in
     let q = List·getD-append (idsTo m f) (pick b ((0 + m) ∷ []) []) 0 i k in
@@ -141,11 +142,13 @@ pub refuse-ids : (size : ℕ) (c : List ℕ) (n m : ℕ) → chunkRefusal size (
 unfolding tallyRefusal
 refuse-ids size c n m h l = sym (then-stop size (length c) _ 13 h (rw (lt-leb (length (presentIds c)) n l)))
 
-pub refuse-counts : (size : ℕ) (c : List ℕ) (n m : ℕ) → chunkRefusal size (length c) ≡ 0 → length (presentIds c) ≤ n → m < length (presentIds c) → 13 ≡ tallyRefusal size c n m
+pub refuse-counts : (size : ℕ) (c : List ℕ) (n m : ℕ) → chunkRefusal size (length c) ≡ 0 → length (presentIds c) ≤ n → m < length (presentIds c)
+    → 13 ≡ tallyRefusal size c n m
 unfolding tallyRefusal
 refuse-counts size c n m h k l = sym (then-stop size (length c) _ 13 h (rw (le-leb (length (presentIds c)) n k, lt-leb (length (presentIds c)) m l)))
 
-pub refuse-none : (size : ℕ) (c : List ℕ) (n m : ℕ) → chunkRefusal size (length c) ≡ 0 → length (presentIds c) ≤ n → length (presentIds c) ≤ m → tallyRefusal size c n m ≡ 0
+pub refuse-none : (size : ℕ) (c : List ℕ) (n m : ℕ) → chunkRefusal size (length c) ≡ 0 → length (presentIds c) ≤ n → length (presentIds c) ≤ m
+    → tallyRefusal size c n m ≡ 0
 unfolding tallyRefusal
 refuse-none size c n m h k l = then-pass size (length c) _ 13 h (rw (le-leb (length (presentIds c)) n k, le-leb (length (presentIds c)) m l))
 

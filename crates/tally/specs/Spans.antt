@@ -22,7 +22,8 @@ pub span-none : (b : ℕ) (f x : ℕ → ℕ) → span b 0 f x ≡ []
 unfolding span
 span-none b f x = refl
 
-pub span-same : (b m : ℕ) (f g x y : ℕ → ℕ) → ((v : ℕ) → b ≤ v → v < b + m → f v ≡ g v) → ((v : ℕ) → b ≤ v → v < b + m → x v ≡ y v) → span b m f x ≡ span b m g y
+pub span-same : (b m : ℕ) (f g x y : ℕ → ℕ) → ((v : ℕ) → b ≤ v → v < b + m → f v ≡ g v) → ((v : ℕ) → b ≤ v → v < b + m → x v ≡ y v)
+    → span b m f x ≡ span b m g y
 unfolding span
 span-same b zero f g x y p q = refl
 span-same b (suc m) f g x y p q =
@@ -190,13 +191,15 @@ sets-step l l′ d p q r at start ea el e er =
 
 -- ---- window by window
 
-pub ids-window : (w : ℕ) (c t : List ℕ) → t ≡ idTable (w * 8192) c → span 0 (w * 8192) (idCount c) (λ (v : ℕ). v) ++ windowIds (w * 8192) t ≡ span 0 ((w + 1) * 8192) (idCount c) (λ (v : ℕ). v)
+pub ids-window : (w : ℕ) (c t : List ℕ) → t ≡ idTable (w * 8192) c
+    → span 0 (w * 8192) (idCount c) (λ (v : ℕ). v) ++ windowIds (w * 8192) t ≡ span 0 ((w + 1) * 8192) (idCount c) (λ (v : ℕ). v)
 ids-window w c t e =
     ap (λ (r : List ℕ). span 0 (w * 8192) (idCount c) (λ (v : ℕ). v) ++ r) (ap (windowIds (w * 8192)) e ∙ window-ids (w * 8192) c)
     ∙ sym (span-add (w * 8192) 8192 (idCount c) (λ (v : ℕ). v))
     ∙ ap (λ (k : ℕ). span 0 k (idCount c) (λ (v : ℕ). v)) (let q : w * 8192 + 8192 ≡ (w + 1) * 8192 = omega arith in q)
 
-pub counts-window : (w : ℕ) (c t : List ℕ) → t ≡ idTable (w * 8192) c → span 0 (w * 8192) (idCount c) (idCount c) ++ windowCounts (w * 8192) t ≡ span 0 ((w + 1) * 8192) (idCount c) (idCount c)
+pub counts-window : (w : ℕ) (c t : List ℕ) → t ≡ idTable (w * 8192) c
+    → span 0 (w * 8192) (idCount c) (idCount c) ++ windowCounts (w * 8192) t ≡ span 0 ((w + 1) * 8192) (idCount c) (idCount c)
 counts-window w c t e =
     ap (λ (r : List ℕ). span 0 (w * 8192) (idCount c) (idCount c) ++ r) (ap (windowCounts (w * 8192)) e ∙ window-counts (w * 8192) c)
     ∙ sym (span-add (w * 8192) 8192 (idCount c) (idCount c))
@@ -218,7 +221,8 @@ prefix-most w c h =
     omega arith
 
 pub front-step :
-    (p d w l l′ r : List ℕ) (n n′ : ℕ) → n ≡ length p → l ≡ p ++ drop n d → l′ ≡ sets l n w → n′ ≡ n + length w → n + length w ≤ length d → p ++ w ≡ r → l′ ≡ r ++ drop n′ d
+    (p d w l l′ r : List ℕ) (n n′ : ℕ) → n ≡ length p → l ≡ p ++ drop n d → l′ ≡ sets l n w → n′ ≡ n + length w → n + length w ≤ length d → p ++ w ≡ r
+    → l′ ≡ r ++ drop n′ d
 front-step p d w l l′ r n n′ en el e em h er =
     e ∙ ap (λ (m : List ℕ). sets m n w) el ∙ front-more p d w n en h ∙ ap₂ (λ (m : List ℕ). λ (k : ℕ). m ++ drop k d) er (sym em)
 

@@ -104,7 +104,9 @@ fn count_ids(cells: &[u16], table: &mut [u32]) -> usize
 // Writes an id that is listed, and its number of cells, and says where the next one goes.
 fn note(ids: &mut [u16], counts: &mut [u32], at: usize, id: usize, n: u32) -> usize
     requires { ⌜ (id < 65536) × (at + length (listIf id n id) ≤ length (now ids)) × (at + length (listIf id n id) ≤ length (now counts)) ⌝ }
-    ensures { λ r. ⌜ (r ≡ at + length (listIf id n id)) × (now (ids .exit) ≡ sets (now (ids .entry)) at (listIf id n id)) × (now (counts .exit) ≡ sets (now (counts .entry)) at (listIf id n n)) ⌝ }
+    ensures { λ r. ⌜ (r ≡ at + length (listIf id n id))
+        × (now (ids .exit) ≡ sets (now (ids .entry)) at (listIf id n id))
+        × (now (counts .exit) ≡ sets (now (counts .entry)) at (listIf id n n)) ⌝ }
 {
     if id == 0 {
         return at;
@@ -125,8 +127,13 @@ fn write_window(
     counts: &mut [u32],
     start: usize,
 ) -> usize
-    requires { ⌜ (length (now table) ≡ 8192) × (base ≤ 57344) × (start + length (windowIds base (now table)) ≤ length (now ids)) × (start + length (windowIds base (now table)) ≤ length (now counts)) ⌝ }
-    ensures { λ r. ⌜ (r ≡ start + length (windowIds base (now (table .entry)))) × (now (ids .exit) ≡ sets (now (ids .entry)) start (windowIds base (now (table .entry)))) × (now (counts .exit) ≡ sets (now (counts .entry)) start (windowCounts base (now (table .entry)))) ⌝ }
+    requires { ⌜ (length (now table) ≡ 8192)
+        × (base ≤ 57344)
+        × (start + length (windowIds base (now table)) ≤ length (now ids))
+        × (start + length (windowIds base (now table)) ≤ length (now counts)) ⌝ }
+    ensures { λ r. ⌜ (r ≡ start + length (windowIds base (now (table .entry))))
+        × (now (ids .exit) ≡ sets (now (ids .entry)) start (windowIds base (now (table .entry))))
+        × (now (counts .exit) ≡ sets (now (counts .entry)) start (windowCounts base (now (table .entry)))) ⌝ }
 {
     let mut at = start;
     let mut k = 0;
@@ -139,8 +146,12 @@ fn write_window(
 
 // Writes the ids that the cells have, upward, each with its number of cells.
 fn list_ids(cells: &[u16], ids: &mut [u16], counts: &mut [u32], table: &mut [u32])
-    requires { ⌜ (length (now table) ≡ 8192) × (length (now cells) ≤ 262144) × (length (presentIds (now cells)) ≤ length (now ids)) × (length (presentIds (now cells)) ≤ length (now counts)) ⌝ }
-    ensures { λ _. ⌜ (now (ids .exit) ≡ presentIds (now (cells .entry)) ++ drop (length (presentIds (now (cells .entry)))) (now (ids .entry))) × (now (counts .exit) ≡ presentCounts (now (cells .entry)) ++ drop (length (presentIds (now (cells .entry)))) (now (counts .entry))) ⌝ }
+    requires { ⌜ (length (now table) ≡ 8192)
+        × (length (now cells) ≤ 262144)
+        × (length (presentIds (now cells)) ≤ length (now ids))
+        × (length (presentIds (now cells)) ≤ length (now counts)) ⌝ }
+    ensures { λ _. ⌜ (now (ids .exit) ≡ presentIds (now (cells .entry)) ++ drop (length (presentIds (now (cells .entry)))) (now (ids .entry)))
+        × (now (counts .exit) ≡ presentCounts (now (cells .entry)) ++ drop (length (presentIds (now (cells .entry)))) (now (counts .entry))) ⌝ }
 {
     let mut at = 0;
     let mut w = 0;

@@ -25,7 +25,8 @@ use Rattle.terrain.specs.declared.world.Top.{Top}
 -- a column's height lies in 1 to the greatest
 pub world-range : (w : World) (t : Tall w) (wx wz : ℤ) → Range (t .top) (biomeAndHeight wx wz (w .«sea_level») (w .«max_height») (w .«seed_offset») .height)
 world-range w t wx wz =
-    subst (λ (z : ℤ). Range (t .top) (biomeAndHeight wx wz (w .«sea_level») z (w .«seed_offset») .height)) (sym (t .is)) (height-range wx wz (w .«sea_level») (t .top) (w .«seed_offset») (t .least))
+    subst (λ (z : ℤ). Range (t .top) (biomeAndHeight wx wz (w .«sea_level») z (w .«seed_offset») .height)) (sym (t .is))
+    (height-range wx wz (w .«sea_level») (t .top) (w .«seed_offset») (t .least))
 
 pub height-least : (w : World) (t : Tall w) (wx wz : ℤ) → 1 ≤ heightAt w wx wz
 unfolding heightAt
@@ -36,11 +37,13 @@ unfolding heightAt
 height-most w t wx wz = world-range w t wx wz .most
 
 -- what is noted of a cell's column
-pub height-col : (w : World) (o : Frame) (i : ℕ) → 0 < o .size → columnHeight w o (colOf (o .size) i) ≡ heightAt w (o .ox +ℤ pos (i % o .size)) (o .oz +ℤ pos (i / o .size / o .size))
+pub height-col : (w : World) (o : Frame) (i : ℕ) → 0 < o .size
+    → columnHeight w o (colOf (o .size) i) ≡ heightAt w (o .ox +ℤ pos (i % o .size)) (o .oz +ℤ pos (i / o .size / o .size))
 unfolding columnHeight
 height-col w o i h = ap₂ (λ (x z : ℕ). heightAt w (o .ox +ℤ pos x) (o .oz +ℤ pos z)) (col-x (o .size) i h) (col-z (o .size) i h)
 
-pub biome-col : (w : World) (o : Frame) (i : ℕ) → 0 < o .size → columnBiome w o (colOf (o .size) i) ≡ biomeNumber (biomeAt w (o .ox +ℤ pos (i % o .size)) (o .oz +ℤ pos (i / o .size / o .size)))
+pub biome-col : (w : World) (o : Frame) (i : ℕ) → 0 < o .size
+    → columnBiome w o (colOf (o .size) i) ≡ biomeNumber (biomeAt w (o .ox +ℤ pos (i % o .size)) (o .oz +ℤ pos (i / o .size / o .size)))
 unfolding columnBiome
 biome-col w o i h = ap₂ (λ (x z : ℕ). biomeNumber (biomeAt w (o .ox +ℤ pos x) (o .oz +ℤ pos z))) (col-x (o .size) i h) (col-z (o .size) i h)
 
@@ -97,7 +100,8 @@ cell-id false v b wy h sea = ground-id (ltZ (pos 0) wy && ltZ wy (h -ℤ pos 1))
 pub base-id : (w : World) (wx wy wz : ℤ) → baseCell w wx wy wz < 65536
 unfolding baseCell cellUnder cellWith
 base-id w wx wy wz =
-    cell-id (leZ (pos (topAt w wx wz .height)) wy) (carved wx wy wz (pos (topAt w wx wz .height))) (biomeNumbered (topAt w wx wz .biome)) wy (pos (topAt w wx wz .height)) (w .«sea_level»)
+    cell-id (leZ (pos (topAt w wx wz .height)) wy) (carved wx wy wz (pos (topAt w wx wz .height)))
+    (biomeNumbered (topAt w wx wz .biome)) wy (pos (topAt w wx wz .height)) (w .«sea_level»)
 
 -- where the level admits no cave, it does not matter what is said of one
 ground-told : (t v u : Bool) (b : Biome) (wy h sea : ℤ) → (t ≡ true → v ≡ u) → groundCell t v b wy h sea ≡ groundCell t u b wy h sea
@@ -105,7 +109,8 @@ unfolding groundCell
 ground-told true v u b wy h sea e = ap (λ (q : Bool). cond q 0 (selectBlock b wy h sea)) (e refl)
 ground-told false v u b wy h sea e = refl
 
-column-told : (t v u : Bool) (b : Biome) (wy h sea : ℤ) → ((ltZ (pos 0) wy && ltZ wy (h -ℤ pos 1)) ≡ true → v ≡ u) → columnCell t v b wy h sea ≡ columnCell t u b wy h sea
+column-told : (t v u : Bool) (b : Biome) (wy h sea : ℤ) → ((ltZ (pos 0) wy && ltZ wy (h -ℤ pos 1)) ≡ true → v ≡ u)
+    → columnCell t v b wy h sea ≡ columnCell t u b wy h sea
 unfolding columnCell
 column-told true v u b wy h sea e = refl
 column-told false v u b wy h sea e = ground-told (ltZ (pos 0) wy && ltZ wy (h -ℤ pos 1)) v u b wy h sea e
@@ -145,7 +150,8 @@ ids w o i false e = subst (λ (u : ℕ). u < 65536) (sym (List·getD-eq-default 
 ids w o i true e =
     let l = ltb-true i _ e in
     let m = tab-length (o .size * o .size * o .size) (baseNumbered w o) in
-    subst (λ (u : ℕ). u < 65536) (sym (tab-at (o .size * o .size * o .size) (baseNumbered w o) i (omega arith))) (base-id w (o .ox +ℤ pos (i % o .size)) (o .oy +ℤ pos (i / o .size % o .size)) (o .oz +ℤ pos (i / o .size / o .size)))
+    subst (λ (u : ℕ). u < 65536) (sym (tab-at (o .size * o .size * o .size) (baseNumbered w o) i (omega arith)))
+    (base-id w (o .ox +ℤ pos (i % o .size)) (o .oy +ℤ pos (i / o .size % o .size)) (o .oz +ℤ pos (i / o .size / o .size)))
 
 pub base-ids : (w : World) (o : Frame) (i : ℕ) → getD (baseCells w o) i 0 < 65536
 base-ids w o i = ids w o i (ltb i (length (baseCells w o))) refl

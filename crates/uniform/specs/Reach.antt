@@ -50,7 +50,8 @@ whole-most (fin false m e) n d p h =
 -- times 500, a number that is at most 0.006 gives at most 3
 times-most : (m : ℕ) (e : ℤ) → m * up e * 1073741824 ≤ 6442451 * down e → T (le (round binary32 false (m * up e * 500) (down e * 1)) (fin false 3 (pos 0)))
 times-most m e h =
-    subst (λ (z : Float). T (le (round binary32 false (m * up e * 500) (down e * 1)) z)) limit-times (round-mono binary32 (m * up e * 500) (down e * 1) (6442451 * 500) 1073741824 (mul-pos (down-pos e) (omega arith)) (omega arith) (omega arith))
+    subst (λ (z : Float). T (le (round binary32 false (m * up e * 500) (down e * 1)) z)) limit-times
+    (round-mono binary32 (m * up e * 500) (down e * 1) (6442451 * 500) 1073741824 (mul-pos (down-pos e) (omega arith)) (omega arith) (omega arith))
 
 nan-most : wholePart nan ≤ 3
 unfolding wholePart toI32 toSigned

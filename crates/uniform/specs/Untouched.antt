@@ -56,11 +56,13 @@ boulder-out s oy t x z wx wz c h =
     let m = boulder-most (boulderHash wx wz) (hash2-plus _ _) in
     either (eqb (t .biome) 1) c _ (pillar-out s oy x z (t .height) (boulderBlocks (boulderHash wx wz)) 1 c (λ j l. h j (omega arith)))
 
-pub boulders-out : (o : Frame) (t : ℕ → Top) (c : List ℕ) → ((k j : ℕ) → j < 5 → o .size ≤ localY (o .size) (o .oy) (pos (t k .height + j))) → bouldersOf o t c ≡ c
+pub boulders-out : (o : Frame) (t : ℕ → Top) (c : List ℕ) → ((k j : ℕ) → j < 5 → o .size ≤ localY (o .size) (o .oy) (pos (t k .height + j)))
+    → bouldersOf o t c ≡ c
 unfolding bouldersOf boulderStep boulderColumn
 boulders-out o t c h =
     steps-idle (o .size * o .size) (boulderStep o t) c
-    (λ k d l. either (insetIn 1 (o .size) (k % o .size) (k / o .size)) d _ (boulder-out (o .size) (o .oy) (t k) (k % o .size) (k / o .size) (o .ox +ℤ pos (k % o .size)) (o .oz +ℤ pos (k / o .size)) d (h k)))
+    (λ k d l. either (insetIn 1 (o .size) (k % o .size) (k / o .size)) d _
+    (boulder-out (o .size) (o .oy) (t k) (k % o .size) (k / o .size) (o .ox +ℤ pos (k % o .size)) (o .oz +ℤ pos (k / o .size)) d (h k)))
 
 -- a tree needs its surface cell in this chunk
 tree-out : (s : ℕ) (oy sea : ℤ) (t : Top) (x z : ℕ) (wx wz : ℤ) (c : List ℕ) → s ≤ localY s oy (pos (t .height - 1)) → placeTree s oy sea t x z wx wz c ≡ c
@@ -74,8 +76,10 @@ tree-out s oy sea t x z wx wz c h =
     other false true = refl
     other false false = refl
 
-pub trees-out : (o : Frame) (sea : ℤ) (t : ℕ → Top) (c : List ℕ) → ((k : ℕ) → o .size ≤ localY (o .size) (o .oy) (pos (t k .height - 1))) → treesOf o sea t c ≡ c
+pub trees-out : (o : Frame) (sea : ℤ) (t : ℕ → Top) (c : List ℕ) → ((k : ℕ) → o .size ≤ localY (o .size) (o .oy) (pos (t k .height - 1)))
+    → treesOf o sea t c ≡ c
 unfolding treesOf treeStep treeColumn
 trees-out o sea t c h =
     steps-idle (o .size * o .size) (treeStep o sea t) c
-    (λ k d l. either (insetIn 2 (o .size) (k % o .size) (k / o .size)) d _ (tree-out (o .size) (o .oy) sea (t k) (k % o .size) (k / o .size) (o .ox +ℤ pos (k % o .size)) (o .oz +ℤ pos (k / o .size)) d (h k)))
+    (λ k d l. either (insetIn 2 (o .size) (k % o .size) (k / o .size)) d _
+    (tree-out (o .size) (o .oy) sea (t k) (k % o .size) (k / o .size) (o .ox +ℤ pos (k % o .size)) (o .oz +ℤ pos (k / o .size)) d (h k)))
