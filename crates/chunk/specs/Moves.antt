@@ -12,7 +12,7 @@ use lib.Seq.{getD-set-other, ext-getD}
 use Rattle.grid.specs.Cube.{cellIndex, putAt, seeAt, steps, tab}
 use Rattle.grid.specs.Grid.{index-lt, index-y, in-all, put-length, steps-length, steps-none, steps-more, tab-length, tab-at}
 use Rattle.grid.specs.Count.{nonAir, nonAirCount, count-most}
-use Rattle.edits.specs.Edits.{pick, columnHeight, layColumn, fillCells, setCells}
+use Rattle.grid_edits.specs.Edits.{pick, columnHeight, layColumn, fillCells, setCells}
 use borrow.Author.Tests.{ltb-true, leb-true, leb-false, le-leb, lt-leb}
 use Rattle.config.specs.Refusals.{passed, refusal, passed-on, passed-stop, refusal-none}
 use Rattle.config.specs.Answers.{accepted, refusedWith, is-refused, not-refused, outcome}

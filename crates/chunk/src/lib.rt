@@ -4,7 +4,7 @@ ghost use mathlib.Core.Path.{_≡_};
 ghost use Prim.Native.Nat.{_≤_};
 ghost use Rattle.grid.specs.Cube.{Cube};
 ghost use Rattle.grid.specs.Count.{nonAir};
-ghost use Rattle.edits.specs.Edits.{columnHeight, layColumn};
+ghost use Rattle.grid_edits.specs.Edits.{columnHeight, layColumn};
 ghost use Rattle.chunk.specs.Tests.{chunkRefusal, cellRefusal, countRefusal};
 ghost use Rattle.chunk.specs.Moves.{columnCount};
 

@@ -5,7 +5,7 @@ use lib.ListN.{length}
 use Rattle.config.specs.Answers.{Outcome}
 use Rattle.chunk.specs.Tests.{chunkRefusal}
 use Rattle.chunk.specs.Calls.{edited}
-use Rattle.edits.specs.Edits.{Group, batchGroups, insideGroups, batchCells}
+use Rattle.grid_edits.specs.Edits.{Group, batchGroups, insideGroups, batchCells}
 
 -- 01, Refused because of the state: "an edit on bare cells .. tests 1, 6, 7 and then the count" (a batch has no 7: what lies outside is skipped).
 -- The values are the number written and the count after the edit.

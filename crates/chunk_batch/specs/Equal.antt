@@ -12,7 +12,7 @@ use Rattle.grid.specs.Cube.{cellIndex, seeAt}
 use Rattle.chunk.specs.Tests.{Inside, chunkRefusal, countRefusal, count-pass}
 use Rattle.chunk.specs.Calls.{edited}
 use Rattle.chunk.specs.Moves.{put-inside, see-inside, edit-done}
-use Rattle.edits.specs.Edits.{group, batchGroups, insideGroups, putGroup, batchCells}
+use Rattle.grid_edits.specs.Edits.{group, batchGroups, insideGroups, putGroup, batchCells}
 use Rattle.chunk_batch.specs.Calls.{groupsDo, batchDoes}
 
 -- a count that no edit moves is right where it fits the chunk

@@ -42,13 +42,13 @@ pub fn set_blocks(cells: &mut [u16], size: usize, count: u32, edits: &[u32]) -> 
     if k != 0 {
         return BatchReply::Refused(k);
     }
-    let change = trial::any_change(cells, size, edits);
+    let change = chunk_trial::any_change(cells, size, edits);
     let m = refuse_change(size, count, change.before, change.after);
     if m != 0 {
         return BatchReply::Refused(m);
     }
-    let n = writer::count_inside(size, edits);
-    groups::lay_groups(cells, size, edits);
+    let n = journal_write::count_inside(size, edits);
+    chunk_groups::lay_groups(cells, size, edits);
     let total = (count as usize + change.after - change.before) as u32;
     BatchReply::Written {
         written: n,

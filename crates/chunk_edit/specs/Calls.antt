@@ -8,7 +8,7 @@ use borrow.Author.Tests.{eqb-true}
 use Rattle.grid.specs.Count.{nonAirCount}
 use Rattle.config.specs.Refusals.{must, passed, refusal, refusal-zero, passed-zero}
 use Rattle.config.specs.Answers.{Outcome, done}
-use Rattle.edits.specs.Edits.{setCells, fillCells}
+use Rattle.grid_edits.specs.Edits.{setCells, fillCells}
 use Rattle.chunk.specs.Tests.{Chunk, chunkRefusal, cellRefusal, chunk-passed}
 use Rattle.chunk.specs.Calls.{edited}
 

@@ -2,8 +2,8 @@
 use mathlib.Core.Bool.{Bool, _&&_, cond}
 use lib.IntN.{ℤ, pos}
 use lib.Ieee.{Float, neg, le}
-use Rattle.words.specs.Num.{nearest, max₃₂, toI32}
-unfoldable pub use Rattle.shapes.specs.Shapes.{offsetFbm₃₂, scaledFbm₃₂, smoothRamp₃₂, ridge₃₂, ridgesOf, ridges₃₂, plateau₃₂, continent₃₂, hillBoost₃₂, coldBoost₃₂, clampOf}
+use Rattle.num.specs.Num.{nearest, max₃₂, toI32}
+unfoldable pub use Rattle.column_shapes.specs.Shapes.{offsetFbm₃₂, scaledFbm₃₂, smoothRamp₃₂, ridge₃₂, ridgesOf, ridges₃₂, plateau₃₂, continent₃₂, hillBoost₃₂, coldBoost₃₂, clampOf}
 use Rattle.column.specs.Floats.{_+f_, _-f_, _*f_, _/f_, nat, real}
 use Rattle.column.specs.declared.Column.{Column}
 use Rattle.column.specs.declared.Relief.{Relief}

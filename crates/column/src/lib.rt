@@ -2,19 +2,19 @@
 // time, which nothing calls: `tops` notes a chunk's columns by rows and tables, equal to the same definitions, and calls `surface_of` alone.
 ghost use mathlib.Core.Path.{_≡_};
 ghost use Rattle.column.specs.Column.{reliefOf, climateOf, weightsOf, heightsOf, blend₃₂, dominantOf, heightOf, surfaceOf, biomeAndHeight};
-use shapes::clamp_i32;
-use shapes::cold_boost;
-use shapes::continent;
-use shapes::hill_boost;
-use shapes::offset_fbm;
-pub use shapes::plateau;
-use shapes::ridges;
-pub use shapes::ridges_of;
-use shapes::scaled_fbm;
-use shapes::smooth_ramp;
-use words::num::max;
-use words::num::of_i32;
-use words::num::to_i32;
+use column_shapes::clamp_i32;
+use column_shapes::cold_boost;
+use column_shapes::continent;
+use column_shapes::hill_boost;
+use column_shapes::offset_fbm;
+pub use column_shapes::plateau;
+use column_shapes::ridges;
+pub use column_shapes::ridges_of;
+use column_shapes::scaled_fbm;
+use column_shapes::smooth_ramp;
+use num::float::max;
+use num::float::of_i32;
+use num::float::to_i32;
 
 pub enum Biome {
     Desert,

@@ -4,7 +4,7 @@ use mathlib.Core.Bool.{cond}
 use Prim.Native.Nat.{ℕ, _-_}
 use lib.Dec.{eqb, ltb}
 use lib.Ieee.{Float, neg}
-use Rattle.words.specs.Num.{nearest}
+use Rattle.num.specs.Num.{nearest}
 use Rattle.noise_tables.specs.Row.{at}
 use Rattle.noise_tables.specs.Places.{Noted}
 use Rattle.column.specs.Floats.{_+f_, _*f_, nat}

@@ -9,7 +9,7 @@ use Rattle.config.specs.Refusals.{passed-zero, refusal-zero}
 use Rattle.config.specs.Limits.{limitRefusal, configHeader, Between, one-less, Fine, fine}
 use Rattle.config.specs.declared.TerrainConfig.{TerrainConfig}
 use Rattle.config.specs.declared.ChunkPos.{ChunkPos}
-use Rattle.terrain.specs.World.{Tall, Near}
+use Rattle.ground_cell.specs.World.{Tall, Near}
 use Rattle.ground.specs.Ground.{worldOf, frameOf, generateRefusal}
 
 pub record Sound (s : TerrainConfig) (p : ChunkPos) (n : ℕ) : Type 0 where

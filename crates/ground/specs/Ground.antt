@@ -13,9 +13,9 @@ use Rattle.config.specs.Answers.{Answer, accepted, refusedWith, never-both, Out
 use Rattle.config.specs.declared.TerrainConfig.{TerrainConfig}
 use Rattle.config.specs.declared.ChunkPos.{ChunkPos}
 use Rattle.grid.specs.Count.{nonAirCount}
-use Rattle.terrain.specs.declared.world.World.{World}
-use Rattle.terrain.specs.declared.world.Frame.{Frame}
-unfoldable pub use Rattle.laying.specs.Laid.{groundIn}
+use Rattle.ground_cell.specs.declared.world.World.{World}
+use Rattle.ground_cell.specs.declared.world.Frame.{Frame}
+unfoldable pub use Rattle.ground_chunk.specs.Laid.{groundIn}
 use Rattle.ground.specs.declared.Generated.{Generated}
 use Rattle.ground.specs.declared.Generated.the-variants.{Count, Refused}
 

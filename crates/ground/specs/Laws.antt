@@ -9,13 +9,13 @@ use Rattle.config.specs.Limits.{limitRefusal, configHeader, fine}
 use Rattle.config.specs.declared.TerrainConfig.{TerrainConfig}
 use Rattle.config.specs.declared.ChunkPos.{ChunkPos}
 use Rattle.grid.specs.Cube.{cellIndex}
-use Rattle.terrain.specs.World.{Tall, heightAt}
-use Rattle.terrain.specs.Base.{baseCells}
-use Rattle.terrain.specs.Laws.{base-length, base-ids, base-at, base-solid, height-least, height-most}
-use Rattle.terrain.specs.declared.world.World.{World}
-use Rattle.terrain.specs.declared.world.Frame.{Frame}
-use Rattle.features.specs.Features.{bouldersOf, topOf}
-use Rattle.features.specs.Kept.{Grown, grown-boulders, grown-trees}
+use Rattle.ground_cell.specs.World.{Tall, heightAt}
+use Rattle.ground_cell.specs.Base.{baseCells}
+use Rattle.ground_cell.specs.Laws.{base-length, base-ids, base-at, base-solid, height-least, height-most}
+use Rattle.ground_cell.specs.declared.world.World.{World}
+use Rattle.ground_cell.specs.declared.world.Frame.{Frame}
+use Rattle.ground_trees.specs.Features.{bouldersOf, topOf}
+use Rattle.ground_trees.specs.Kept.{Grown, grown-boulders, grown-trees}
 use Rattle.ground.specs.Ground.{groundIn, worldOf, frameOf, ground}
 use Rattle.ground.specs.Facts.{tall-of}
 

@@ -9,9 +9,9 @@ ghost use Rattle.ground.specs.Ground.{worldOf, frameOf, generateRefusal,
 use config::ChunkPos;
 use config::TerrainConfig;
 use config::config_limits;
-use laying::lay_chunk;
-use terrain::world::Frame;
-use terrain::world::World;
+use ground_chunk::lay_chunk;
+use ground_cell::world::Frame;
+use ground_cell::world::World;
 
 // The number of cells that are not air, or the number of the refusal.
 pub enum Generated {

@@ -12,11 +12,11 @@ use ghost.Atoms.{Atoms}
 use contract.Lifetimes.{Lfts}
 use contract.Monad.{Fun, fact}
 use denote.Ref.{RefT, now}
-use Rattle.calls.specs.Calls.{Outcome, outcome}
-use Rattle.calls.specs.declared.Reply.{Reply}
-use Rattle.calls.specs.declared.Session.{Session}
-use Rattle.recovery.specs.Model.{set, column, batch, undo}
-use Rattle.recovery.specs.Statement.{Tablet, tablet, does}
+use Rattle.session_calls.specs.Calls.{Outcome, outcome}
+use Rattle.session_calls.specs.declared.Reply.{Reply}
+use Rattle.session_calls.specs.declared.Session.{Session}
+use Rattle.takeover_model.specs.Model.{set, column, batch, undo}
+use Rattle.takeover_model.specs.Statement.{Tablet, tablet, does}
 use Rattle.host.proofs.by_reference.pl_session_set as set-form
 use Rattle.host.proofs.by_reference.pl_session_fill_column as column-form
 use Rattle.host.proofs.by_reference.pl_session_set_blocks as batch-form

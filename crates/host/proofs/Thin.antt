@@ -41,16 +41,16 @@ use denote.Triple.Clauses.{Clauses, ensured, lasts, closing}
 use denote.Triple.Walked.{says, Stays, stay-ref, stay-none, gave-slice, walkOf, goes-ref, goes-none, goes-gave-slice, Walks, ends-at, walked, walk-meets}
 use denote.Exit.{yes}
 use denote.Signature.{plain}
-use Rattle.calls.specs.declared.Session.{Session}
-use Rattle.calls.specs.declared.Edited.{Edited}
-use Rattle.calls.specs.Calls.{Outcome, outcome}
-use Rattle.calls.proofs.Session as S
-use Rattle.calls.proofs.Session.Laws as S′
-use Rattle.calls.proofs.Edited as B
-use Rattle.calls.proofs.Edited.Laws as B′
-use Rattle.calls.proofs.Reply as R
-use Rattle.calls.proofs.Reply.Laws as R′
-use Rattle.session.proofs.set as callee
+use Rattle.session_calls.specs.declared.Session.{Session}
+use Rattle.session_calls.specs.declared.Edited.{Edited}
+use Rattle.session_calls.specs.Calls.{Outcome, outcome}
+use Rattle.session_calls.proofs.Session as S
+use Rattle.session_calls.proofs.Session.Laws as S′
+use Rattle.session_calls.proofs.Edited as B
+use Rattle.session_calls.proofs.Edited.Laws as B′
+use Rattle.session_calls.proofs.Reply as R
+use Rattle.session_calls.proofs.Reply.Laws as R′
+use Rattle.session_edit.proofs.set as callee
 use Rattle.host.proofs.by_reference.pl_session_set as f
 
 abbrev stayed : Stays (f.ended .signature .params) (f.ended .kept)

@@ -1,9 +1,9 @@
 // The four edits of a session over a record lent by reference, for a host that keeps one: each hands the record to the call by
 // value and stores what comes back. Exported to C as they stand; one equation for the record, the reply, the cells and the journal.
 ghost use mathlib.Core.Path.{_≡_};
-ghost use Rattle.calls.specs.Calls.{outcome, setDoes, columnDoes, batchDoes, undoDoes};
-use calls::Reply;
-use calls::Session;
+ghost use Rattle.session_calls.specs.Calls.{outcome, setDoes, columnDoes, batchDoes, undoDoes};
+use session_calls::Reply;
+use session_calls::Session;
 
 #[no_mangle]
 pub extern "C" fn pl_session_set(
@@ -18,7 +18,7 @@ pub extern "C" fn pl_session_set(
     ensures { λ r. ⌜ outcome (now (session .exit)) r (now (cells .exit)) (now (journal .exit))
         ≡ setDoes (now (session .entry)) (now (cells .entry)) (now (journal .entry)) x y z id ⌝ }
 {
-    let b = session::set(*session, cells, journal, x, y, z, id);
+    let b = session_edit::set(*session, cells, journal, x, y, z, id);
     *session = b.session;
     b.reply
 }
@@ -36,7 +36,7 @@ pub extern "C" fn pl_session_fill_column(
     ensures { λ r. ⌜ outcome (now (session .exit)) r (now (cells .exit)) (now (journal .exit))
         ≡ columnDoes (now (session .entry)) (now (cells .entry)) (now (journal .entry)) x z height id ⌝ }
 {
-    let b = session::fill_column(*session, cells, journal, x, z, height, id);
+    let b = session_edit::fill_column(*session, cells, journal, x, z, height, id);
     *session = b.session;
     b.reply
 }
@@ -65,7 +65,7 @@ pub extern "C" fn pl_session_undo(
     ensures { λ r. ⌜ outcome (now (session .exit)) r (now (cells .exit)) (now (journal .exit))
         ≡ undoDoes (now (session .entry)) (now (cells .entry)) (now (journal .entry)) ⌝ }
 {
-    let b = undo::undo(*session, cells, journal);
+    let b = session_undo::undo(*session, cells, journal);
     *session = b.session;
     b.reply
 }

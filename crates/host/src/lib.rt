@@ -8,18 +8,18 @@ ghost use Rattle.ground.specs.Ground.{generateDoes};
 ghost use Rattle.chunk_look.specs.Calls.{getDoes, isAirDoes, isEmptyDoes, isSolidDoes};
 ghost use Rattle.chunk_edit.specs.Calls.{replaceDoes, setDoes, fillDoes};
 ghost use Rattle.chunk_batch.specs.Calls.{batchDoes};
-ghost use Rattle.calls.specs.Calls.{freshDoes, reopenDoes};
-ghost use Rattle.prefix.specs.Prefix.{committedPart};
-ghost use Rattle.answers.specs.Answers.{answerOf, answered, editInC, batchAnswered, batchInC, borderAnswered, borderInCDoes, TalliedInC};
-ghost use Rattle.starts.specs.Sessions.{begunInC, freshInC, resumedInC, reopenInC};
+ghost use Rattle.session_calls.specs.Calls.{freshDoes, reopenDoes};
+ghost use Rattle.journal_prefix.specs.Prefix.{committedPart};
+ghost use Rattle.host_answers.specs.Answers.{answerOf, answered, editInC, batchAnswered, batchInC, borderAnswered, borderInCDoes, TalliedInC};
+ghost use Rattle.host_starts.specs.Sessions.{begunInC, freshInC, resumedInC, reopenInC};
 
 mod by_reference;
 
-use answers::Answer;
-use answers::BatchAnswer;
+use host_answers::Answer;
+use host_answers::BatchAnswer;
 use config::ChunkPos;
 use config::TerrainConfig;
-use starts::Start;
+use host_starts::Start;
 
 #[no_mangle]
 pub extern "C" fn pl_hash2(x: i32, y: i32) -> f32
@@ -67,42 +67,42 @@ pub extern "C" fn pl_fbm3d(x: f32, y: f32, z: f32, octaves: u32) -> f32
 pub extern "C" fn pl_generate(config: TerrainConfig, pos: ChunkPos, cells: &mut [u16]) -> Answer
     ensures { λ r. ⌜ answered r (now (cells .exit)) ≡ editInC (generateDoes config pos (now (cells .entry))) ⌝ }
 {
-    answers::ground_answer(ground::generate(config, pos, cells))
+    host_answers::ground_answer(ground::generate(config, pos, cells))
 }
 
 #[no_mangle]
 pub extern "C" fn pl_get(cells: &[u16], size: usize, x: usize, y: usize, z: usize) -> Answer
     ensures { λ r. ⌜ r ≡ answerOf (getDoes size (now (cells .entry)) x y z) ⌝ }
 {
-    answers::id_answer(chunk_look::get(cells, size, x, y, z))
+    host_answers::id_answer(chunk_look::get(cells, size, x, y, z))
 }
 
 #[no_mangle]
 pub extern "C" fn pl_is_air(cells: &[u16], size: usize, x: usize, y: usize, z: usize) -> Answer
     ensures { λ r. ⌜ r ≡ answerOf (isAirDoes size (now (cells .entry)) x y z) ⌝ }
 {
-    answers::flag_answer(chunk_look::is_air(cells, size, x, y, z))
+    host_answers::flag_answer(chunk_look::is_air(cells, size, x, y, z))
 }
 
 #[no_mangle]
 pub extern "C" fn pl_is_empty(cells: &[u16], size: usize) -> Answer
     ensures { λ r. ⌜ r ≡ answerOf (isEmptyDoes size (now (cells .entry))) ⌝ }
 {
-    answers::flag_answer(chunk_look::is_empty(cells, size))
+    host_answers::flag_answer(chunk_look::is_empty(cells, size))
 }
 
 #[no_mangle]
 pub extern "C" fn pl_is_solid(cells: &[u16], size: usize) -> Answer
     ensures { λ r. ⌜ r ≡ answerOf (isSolidDoes size (now (cells .entry))) ⌝ }
 {
-    answers::flag_answer(chunk_look::is_solid(cells, size))
+    host_answers::flag_answer(chunk_look::is_solid(cells, size))
 }
 
 #[no_mangle]
 pub extern "C" fn pl_replace_blocks(cells: &mut [u16], size: usize, blocks: &[u16]) -> Answer
     ensures { λ r. ⌜ answered r (now (cells .exit)) ≡ editInC (replaceDoes size (now (cells .entry)) (now (blocks .entry))) ⌝ }
 {
-    answers::count_answer(chunk_edit::replace_blocks(cells, size, blocks))
+    host_answers::count_answer(chunk_edit::replace_blocks(cells, size, blocks))
 }
 
 #[no_mangle]
@@ -117,7 +117,7 @@ pub extern "C" fn pl_set(
 ) -> Answer
     ensures { λ r. ⌜ answered r (now (cells .exit)) ≡ editInC (setDoes size count (now (cells .entry)) x y z id) ⌝ }
 {
-    answers::count_answer(chunk_edit::set(cells, size, count, x, y, z, id))
+    host_answers::count_answer(chunk_edit::set(cells, size, count, x, y, z, id))
 }
 
 #[no_mangle]
@@ -132,7 +132,7 @@ pub extern "C" fn pl_fill_column(
 ) -> Answer
     ensures { λ r. ⌜ answered r (now (cells .exit)) ≡ editInC (fillDoes size count (now (cells .entry)) x z height id) ⌝ }
 {
-    answers::count_answer(chunk_edit::fill_column(cells, size, count, x, z, height, id))
+    host_answers::count_answer(chunk_edit::fill_column(cells, size, count, x, z, height, id))
 }
 
 #[no_mangle]
@@ -144,7 +144,7 @@ pub extern "C" fn pl_set_blocks(
 ) -> BatchAnswer
     ensures { λ r. ⌜ batchAnswered r (now (cells .exit)) ≡ batchInC (batchDoes size count (now (cells .entry)) (now (edits .entry))) ⌝ }
 {
-    answers::batch_answer(chunk_batch::set_blocks(cells, size, count, edits))
+    host_answers::batch_answer(chunk_batch::set_blocks(cells, size, count, edits))
 }
 
 // A number above 5 names no face: 99, which the scope does not use.
@@ -158,9 +158,9 @@ pub extern "C" fn pl_extract_border(
     ensures { λ r. ⌜ borderAnswered r (now (border .exit)) ≡ borderInCDoes n size (now (cells .entry)) (now (border .entry)) ⌝ }
 {
     if n > 5 {
-        return answers::refused(99);
+        return host_answers::refused(99);
     }
-    answers::border_answer(chunk_border::extract_border(cells, size, answers::face(n), border))
+    host_answers::border_answer(chunk_border::extract_border(cells, size, host_answers::face(n), border))
 }
 
 #[no_mangle]
@@ -172,7 +172,7 @@ pub extern "C" fn pl_tally(
 ) -> Answer
     ensures { λ r. ⌜ TalliedInC size (now (cells .entry)) r (now (ids .entry)) (now (counts .entry)) (now (ids .exit)) (now (counts .exit)) ⌝ }
 {
-    answers::tally_answer(tally::tally(cells, size, ids, counts))
+    host_answers::tally_answer(chunk_tally::tally(cells, size, ids, counts))
 }
 
 #[no_mangle]
@@ -184,14 +184,14 @@ pub extern "C" fn pl_session_fresh(
 ) -> Start
     ensures { λ r. ⌜ begunInC r (now (cells .exit)) (now (journal .exit)) ≡ freshInC (freshDoes config pos (now (cells .entry)) (now (journal .entry))) ⌝ }
 {
-    starts::fresh_start(fresh::fresh(config, pos, cells, journal))
+    host_starts::fresh_start(session_fresh::fresh(config, pos, cells, journal))
 }
 
 #[no_mangle]
 pub extern "C" fn pl_session_reopen(cells: &mut [u16], journal: &[u8], held: usize) -> Start
     ensures { λ r. ⌜ resumedInC r (now (cells .exit)) ≡ reopenInC (reopenDoes (now (cells .entry)) (now (journal .entry)) held) ⌝ }
 {
-    starts::reopen_start(reopen::reopen(cells, journal, held))
+    host_starts::reopen_start(session_reopen::reopen(cells, journal, held))
 }
 
 // How many bytes of a journal count: the length of its committed prefix.
@@ -199,6 +199,6 @@ pub extern "C" fn pl_session_reopen(cells: &mut [u16], journal: &[u8], held: usi
 pub extern "C" fn pl_committed_len(journal: &[u8], held: usize) -> usize
     ensures { λ r. ⌜ r ≡ length (committedPart (now (journal .entry)) held) ⌝ }
 {
-    let part = prefix::committed_prefix(journal, held);
+    let part = journal_prefix::committed_prefix(journal, held);
     part.len()
 }

@@ -2,9 +2,9 @@
 -- `sub`, `mul` and `div` below is one such operation of noise.rs. Assumes nothing.
 use Prim.Native.Nat.{ℕ, zero, suc}
 use lib.Ieee.{Float, binary32, add, mul, div}
-use Rattle.words.specs.Num.{nearest}
-pub use Rattle.lattice.specs.Noise.{num, next}
-unfoldable pub use Rattle.lattice.specs.Noise.{smooth₃₂, lerp₃₂, ease₃₂, square₃₂, noise2d₃₂, layer₃₂, noise3d₃₂}
+use Rattle.num.specs.Num.{nearest}
+pub use Rattle.noise_lattice.specs.Noise.{num, next}
+unfoldable pub use Rattle.noise_lattice.specs.Noise.{smooth₃₂, lerp₃₂, ease₃₂, square₃₂, noise2d₃₂, layer₃₂, noise3d₃₂}
 
 -- the four locals of the loop over octaves: the sum, the next octave's amplitude and frequency, the sum of amplitudes
 pub record Octaves : Type 0 where

@@ -2,13 +2,13 @@
 // stands in its order.
 ghost use mathlib.Core.Path.{_≡_};
 ghost use Rattle.noise.specs.Noise.{fbm2d₃₂, fbm3d₃₂};
-pub use hashes::hash2;
-pub use hashes::hash3;
-pub use hashes::unit;
-pub use lattice::lerp;
-pub use lattice::noise2d;
-pub use lattice::noise3d;
-pub use lattice::smooth;
+pub use noise_hash::hash2;
+pub use noise_hash::hash3;
+pub use noise_hash::unit;
+pub use noise_lattice::lerp;
+pub use noise_lattice::noise2d;
+pub use noise_lattice::noise3d;
+pub use noise_lattice::smooth;
 
 // 2D fractional Brownian motion: amplitude halved and frequency doubled for each octave.
 pub fn fbm2d(x: f32, y: f32, octaves: u32) -> f32

@@ -6,8 +6,8 @@ ghost use Rattle.noise_tables.specs.Row.{Row};
 ghost use Rattle.noise_layers.specs.Layers.{edgeAt, Laid, Room, Layered, rowMore};
 use noise::hash3;
 use noise::lerp;
-use words::wrap::of_bits;
-use words::wrap::wrapping_add;
+use num::wrap::of_bits;
+use num::wrap::wrapping_add;
 
 // Between the hashes along x at iy and iz, for n places that the tables tell of from base on; written from `to` on. The
 // two hashes are kept until a place lies in the next cube.

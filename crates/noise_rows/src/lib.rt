@@ -10,9 +10,9 @@ ghost use Rattle.noise_rows.specs.Sums.{Run, Added, inSquare, noiseAt, z
 use noise::hash2;
 use noise::lerp;
 use noise::smooth;
-use words::num::floor_part;
-use words::wrap::of_bits;
-use words::wrap::wrapping_add;
+use num::float::floor_part;
+use num::wrap::of_bits;
+use num::wrap::wrapping_add;
 
 // A lattice square and the hashes of its corners: a and b at iy, c and d at iy + 1.
 pub struct Square {

@@ -5,8 +5,8 @@ ghost use Prim.Native.Nat.{_+_, _≤_};
 ghost use lib.ListN.{length};
 ghost use Rattle.noise_tables.specs.Places.{entryOf, Told};
 use noise::smooth;
-use words::num::floor_part;
-use words::wrap::bits_of;
+use num::float::floor_part;
+use num::wrap::bits_of;
 
 // The bits of a whole part, and a smoothed fraction.
 pub struct Entry {

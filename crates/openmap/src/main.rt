@@ -1,4 +1,4 @@
 // Opens a map: reads a journal on standard input and prints what it gives. Run in the gate on 01's listing.
 fn main() {
-    program::open_map();
+    openmap_main::open_map();
 }

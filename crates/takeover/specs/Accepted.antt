@@ -15,24 +15,24 @@ use Rattle.text.specs.Pick.{by-bool}
 use Rattle.config.specs.declared.Header.{Header}
 use Rattle.config.specs.Limits.{configHeader, limitRefusal}
 use Rattle.grid.specs.Grid.{in-all}
-use Rattle.edits.specs.Edits.{Group}
-use Rattle.format.specs.Line.{Edit, set, column, batch, headerText, editText, undoText, ended, Line, edits, undoes, wrong, headerOf}
-use Rattle.format.specs.Journal.{lines, committed, Active, active, dropLast, after, Read, read, bad, follow}
-use Rattle.format.specs.Lines.{join, committed-le}
-use Rattle.format.specs.RoundTrip.{EditOk}
-use Rattle.format.specs.Sizes.{undo-length}
-use Rattle.format.specs.Batches.{batchArgs, batch-args, batch-given}
-use Rattle.format.specs.Writer.{saidText, LineOk, AllLineOk, onSome, afterAll, journalText, journal-wrote}
-use Rattle.calls.specs.Asked.{Asked, asks, clip, setAsks, columnAsks, batchLine, batchAsks}
-use Rattle.calls.specs.Record.{cube}
-use Rattle.calls.specs.Calls.{configOf, posOf, openWith, openHeader, openLines, reopenDoes}
-use Rattle.calls.specs.declared.Session.{Session}
-use Rattle.calls.specs.declared.Reopened.the-variants.{Opened, Refused as NotOpened}
-use Rattle.calls.specs.declared.Reply.{Reply}
-use Rattle.reopen.proofs.Numbers.{header-back}
-use Rattle.recovery.specs.Model.{Call, Model, Ran, modelSize, modelFresh, left, askedBy, modelEdit, modelUndo, modelStep, modelRun, modelReplies}
-use Rattle.recovery.specs.Model as M
-use Rattle.recovery.specs.Asks.{set-same, column-same, batch-same}
+use Rattle.grid_edits.specs.Edits.{Group}
+use Rattle.journal_format.specs.Line.{Edit, set, column, batch, headerText, editText, undoText, ended, Line, edits, undoes, wrong, headerOf}
+use Rattle.journal_format.specs.Journal.{lines, committed, Active, active, dropLast, after, Read, read, bad, follow}
+use Rattle.journal_format.specs.Lines.{join, committed-le}
+use Rattle.journal_format.specs.RoundTrip.{EditOk}
+use Rattle.journal_format.specs.Sizes.{undo-length}
+use Rattle.journal_format.specs.Batches.{batchArgs, batch-args, batch-given}
+use Rattle.journal_format.specs.Writer.{saidText, LineOk, AllLineOk, onSome, afterAll, journalText, journal-wrote}
+use Rattle.session_calls.specs.Asked.{Asked, asks, clip, setAsks, columnAsks, batchLine, batchAsks}
+use Rattle.session_calls.specs.Record.{cube}
+use Rattle.session_calls.specs.Calls.{configOf, posOf, openWith, openHeader, openLines, reopenDoes}
+use Rattle.session_calls.specs.declared.Session.{Session}
+use Rattle.session_calls.specs.declared.Reopened.the-variants.{Opened, Refused as NotOpened}
+use Rattle.session_calls.specs.declared.Reply.{Reply}
+use Rattle.session_reopen.proofs.Numbers.{header-back}
+use Rattle.takeover_model.specs.Model.{Call, Model, Ran, modelSize, modelFresh, left, askedBy, modelEdit, modelUndo, modelStep, modelRun, modelReplies}
+use Rattle.takeover_model.specs.Model as M
+use Rattle.takeover_model.specs.Asks.{set-same, column-same, batch-same}
 
 -- ---- the call that a line says
 

@@ -7,13 +7,13 @@ use Prim.Native.Nat.{ℕ, _+_, _≤_, _<_}
 use lib.ListN.{length, take}
 use denote.Ref.{now}
 use Rattle.config.specs.Limits.{configHeader}
-use Rattle.format.specs.Line.{headerText, ended}
-use Rattle.format.specs.Journal as J
-use Rattle.calls.specs.declared.Session.{Session}
-use Rattle.calls.specs.declared.Reply.{Reply}
-use Rattle.calls.specs.declared.Reopened.the-variants.{Opened, Refused}
-use Rattle.recovery.specs.Model.{Call, Model, modelFresh, modelRun, modelReplies}
-use Rattle.recovery.specs.Statement.{Tablet, usedBytes, Alike, AsModel, Laid, CutAt}
+use Rattle.journal_format.specs.Line.{headerText, ended}
+use Rattle.journal_format.specs.Journal as J
+use Rattle.session_calls.specs.declared.Session.{Session}
+use Rattle.session_calls.specs.declared.Reply.{Reply}
+use Rattle.session_calls.specs.declared.Reopened.the-variants.{Opened, Refused}
+use Rattle.takeover_model.specs.Model.{Call, Model, modelFresh, modelRun, modelReplies}
+use Rattle.takeover_model.specs.Statement.{Tablet, usedBytes, Alike, AsModel, Laid, CutAt}
 use Rattle.takeover.specs.Contracts.{Made, after, First, began, Second, resumes}
 
 -- the model of the same start: it is given the settings, the place and how long the lent journal is

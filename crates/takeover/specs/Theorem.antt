@@ -7,20 +7,20 @@ use native.Mathlib.Omega.{arith}
 use lib.ListN.{length, take}
 use denote.Ref.{now}
 use Rattle.config.specs.Limits.{configHeader}
-use Rattle.format.specs.Line.{headerText}
-use Rattle.format.specs.Journal as J
-use Rattle.format.specs.Lines.{NoLF, noLF-append}
-use Rattle.format.specs.RoundTrip.{header-noLF}
-use Rattle.calls.specs.Calls.{Outcome, Begun, freshDoes, Resumed, resumed}
-use Rattle.calls.specs.declared.Reply.{Reply}
-use Rattle.calls.specs.declared.Reopened.the-variants.{Refused}
-use Rattle.recovery.specs.Model.{Call, modelFresh, modelRun}
-use Rattle.recovery.specs.Model as M
-use Rattle.recovery.specs.Statement.{Tablet, tablet, usedBytes, does, leaves, Alike, AsModel, Laid, CutAt}
-use Rattle.recovery.specs.Run.{run, replies}
-use Rattle.recovery.specs.Steps.{Holds}
-use Rattle.recovery.specs.Open.{Fresher, fresh-holds, reopens-none}
-use Rattle.recovery.specs.Takeover.{Taken, taken, first-cut, Along, along, as-model, laid-on, same-replies}
+use Rattle.journal_format.specs.Line.{headerText}
+use Rattle.journal_format.specs.Journal as J
+use Rattle.journal_format.specs.Lines.{NoLF, noLF-append}
+use Rattle.journal_format.specs.RoundTrip.{header-noLF}
+use Rattle.session_calls.specs.Calls.{Outcome, Begun, freshDoes, Resumed, resumed}
+use Rattle.session_calls.specs.declared.Reply.{Reply}
+use Rattle.session_calls.specs.declared.Reopened.the-variants.{Refused}
+use Rattle.takeover_model.specs.Model.{Call, modelFresh, modelRun}
+use Rattle.takeover_model.specs.Model as M
+use Rattle.takeover_model.specs.Statement.{Tablet, tablet, usedBytes, does, leaves, Alike, AsModel, Laid, CutAt}
+use Rattle.takeover_model.specs.Run.{run, replies}
+use Rattle.takeover_model.specs.Steps.{Holds}
+use Rattle.takeover_model.specs.Open.{Fresher, fresh-holds, reopens-none}
+use Rattle.takeover_model.specs.Takeover.{Taken, taken, first-cut, Along, along, as-model, laid-on, same-replies}
 use Rattle.takeover.specs.Contracts.{Made, none, set, column, batch, undo, form, after, gave, First, began, Second, resumes}
 use Rattle.takeover.specs.Demand.{model, firstLine, TakenOver, TakeoverTheorem}
 

@@ -6,14 +6,14 @@ use Prim.Native.Nat.{ℕ}
 use contract.Lifetimes.{Lfts}
 use Rattle.config.specs.declared.TerrainConfig.{TerrainConfig}
 use Rattle.config.specs.declared.ChunkPos.{ChunkPos}
-use Rattle.calls.specs.declared.Fresh.{Fresh}
-use Rattle.calls.specs.declared.Fresh.the-variants.{Started}
-use Rattle.calls.specs.declared.Reply.{Reply}
-use Rattle.calls.specs.declared.Session.{Session}
-use Rattle.calls.specs.Calls.{Outcome, begun, freshDoes, reopenDoes}
-use Rattle.recovery.specs.Model.{Call}
-use Rattle.recovery.specs.Model as M
-use Rattle.recovery.specs.Statement.{Tablet, leaves, does}
+use Rattle.session_calls.specs.declared.Fresh.{Fresh}
+use Rattle.session_calls.specs.declared.Fresh.the-variants.{Started}
+use Rattle.session_calls.specs.declared.Reply.{Reply}
+use Rattle.session_calls.specs.declared.Session.{Session}
+use Rattle.session_calls.specs.Calls.{Outcome, begun, freshDoes, reopenDoes}
+use Rattle.takeover_model.specs.Model.{Call}
+use Rattle.takeover_model.specs.Model as M
+use Rattle.takeover_model.specs.Statement.{Tablet, leaves, does}
 use Rattle.takeover.specs.Contracts.{Lent, Turn, Made, First, Second}
 use Rattle.takeover.specs.Contracts as C
 

@@ -1,6 +1,6 @@
 -- `chunk::column_height` meets its contract. Assumes nothing.
 use borrow.Author.Tests.{lt-ltb, le-ltb}
-use Rattle.edits.specs.Edits.{columnHeight}
+use Rattle.grid_edits.specs.Edits.{columnHeight}
 use Rattle.chunk.proofs.column_height.Statement.{statement}
 use Rattle.chunk.proofs.column_height.Tie as tie
 

@@ -4,7 +4,7 @@ use Prim.Native.Nat.{ℕ, _-_, _≤_, _<_}
 use native.Mathlib.Omega.{arith}
 use lib.ListN.{length}
 use Rattle.grid.specs.Cube.{putAt}
-use Rattle.edits.specs.Edits.{layColumn}
+use Rattle.grid_edits.specs.Edits.{layColumn}
 use Rattle.chunk.specs.Moves.{lay-none, lay-more, lay-length}
 use Rattle.chunk.proofs.lay_column.Statement.{statement}
 use Rattle.chunk.proofs.lay_column.Tie as tie

@@ -3,7 +3,7 @@ use mathlib.Core.Path.{sym, ap}
 use Prim.Native.Nat.{ℕ}
 use lib.Ieee.{ofBits}
 use borrow.Author.Tests.{ne-eqb}
-use Rattle.words.specs.Num.{nearest}
+use Rattle.num.specs.Num.{nearest}
 use Rattle.column_tables.specs.Coords.{scaledBy}
 use Rattle.column_tables.proofs.scaled.Statement.{statement}
 use Rattle.column_tables.proofs.scaled.Tie as tie

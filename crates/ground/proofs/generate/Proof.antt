@@ -10,8 +10,8 @@ use Rattle.config.specs.Answers.{accepted, refusedWith, not-refused, is-refused
 use Rattle.grid.specs.Cube.{Cube}
 use Rattle.grid.specs.Count.{nonAirCount, count-most}
 use Rattle.grid.specs.Grid.{cube-most}
-use Rattle.terrain.specs.World.{Tall, Near}
-use Rattle.terrain.specs.declared.world.Frame.{Frame}
+use Rattle.ground_cell.specs.World.{Tall, Near}
+use Rattle.ground_cell.specs.declared.world.Frame.{Frame}
 use Rattle.ground.specs.Ground.{groundIn, worldOf, frameOf, ground, generateRefusal, generateDoes}
 use Rattle.ground.specs.Facts.{Sound, sound, tall-of, near-of}
 use Rattle.ground.proofs.generate.Statement.{statement}

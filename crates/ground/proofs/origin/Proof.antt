@@ -7,7 +7,7 @@ use mir.Syntax.{w32, w64}
 use mir.Val.{SFits, ofZ, toZ}
 use mir.ValLaws.{toZ-ofZ, toZ-pos}
 use Rattle.config.proofs.Products.{widened, widen-fits, widen-same}
-use Rattle.terrain.proofs.Signed.{again, back}
+use Rattle.ground_cell.proofs.Signed.{again, back}
 use Rattle.ground.proofs.origin.Statement.{statement}
 use Rattle.ground.proofs.origin.Tie as tie
 

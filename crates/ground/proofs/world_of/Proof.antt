@@ -9,11 +9,11 @@ use lib.Ieee.{Float, ofBits}
 use mir.Syntax.{w32}
 use mir.Val.{SFits}
 use mir.ValLaws.{toZ-ofZ}
-use Rattle.words.specs.Laws.{ap₃}
-use Rattle.words.specs.Num.{nearest}
+use Rattle.num.specs.Laws.{ap₃}
+use Rattle.num.specs.Num.{nearest}
 use Rattle.column.specs.Floats.{_*f_, nat}
 use Rattle.config.specs.Limits.{Between, one-less}
-use Rattle.terrain.proofs.Signed.{again, back}
+use Rattle.ground_cell.proofs.Signed.{again, back}
 use Rattle.ground.specs.Ground.{worldWith, worldOf}
 use Rattle.ground.proofs.world_of.Statement.{statement}
 use Rattle.ground.proofs.world_of.Tie as tie

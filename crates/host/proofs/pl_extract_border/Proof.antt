@@ -1,5 +1,5 @@
 -- `host::pl_extract_border` meets its contract. Assumes nothing.
-use Rattle.answers.specs.Answers.{border-in-c, border-no-face}
+use Rattle.host_answers.specs.Answers.{border-in-c, border-no-face}
 use borrow.Author.Needs.{needs}
 use Rattle.host.proofs.pl_extract_border.Statement.{statement}
 use Rattle.host.proofs.pl_extract_border.Tie as tie

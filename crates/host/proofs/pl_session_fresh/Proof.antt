@@ -1,5 +1,5 @@
 -- `host::pl_session_fresh` meets its contract. Assumes nothing.
-use Rattle.starts.specs.Sessions.{fresh-in-c}
+use Rattle.host_starts.specs.Sessions.{fresh-in-c}
 use borrow.Author.Needs.{needs}
 use Rattle.host.proofs.pl_session_fresh.Statement.{statement}
 use Rattle.host.proofs.pl_session_fresh.Tie as tie

@@ -1,5 +1,5 @@
 -- `host::pl_session_reopen` meets its contract. Assumes nothing.
-use Rattle.starts.specs.Sessions.{reopen-in-c}
+use Rattle.host_starts.specs.Sessions.{reopen-in-c}
 use borrow.Author.Needs.{needs}
 use Rattle.host.proofs.pl_session_reopen.Statement.{statement}
 use Rattle.host.proofs.pl_session_reopen.Tie as tie

@@ -1,5 +1,5 @@
 -- `host::pl_set_blocks` meets its contract. Assumes nothing.
-use Rattle.answers.specs.Answers.{batch-in-c}
+use Rattle.host_answers.specs.Answers.{batch-in-c}
 use borrow.Author.Needs.{needs}
 use Rattle.host.proofs.pl_set_blocks.Statement.{statement}
 use Rattle.host.proofs.pl_set_blocks.Tie as tie

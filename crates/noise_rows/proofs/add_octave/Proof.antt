@@ -5,8 +5,8 @@ use native.Mathlib.Omega.{arith}
 use lib.Ieee.{Float, binary32, mul, sub}
 use mir.Syntax.{w32}
 use borrow.Author.Needs.{needs}
-use Rattle.words.specs.Laws.{read}
-use Rattle.words.proofs.Floor.{floor-again}
+use Rattle.num.specs.Laws.{read}
+use Rattle.num.proofs.Floor.{floor-again}
 use Rattle.noise.specs.Noise.{smooth₃₂, ease₃₂}
 use Rattle.noise_rows.specs.Square.{squareOf}
 use Rattle.noise_rows.specs.Sums.{Added, added-none, added-run, inSquare, noiseAt}

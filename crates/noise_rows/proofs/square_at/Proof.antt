@@ -2,7 +2,7 @@
 use mathlib.Core.Path.{ap, ap₂, _∙_}
 use mir.Syntax.{w32}
 use mir.ValLaws.{toZ-ofZ}
-use Rattle.words.specs.Laws.{read}
+use Rattle.num.specs.Laws.{read}
 use Rattle.noise.specs.Hash.{hash2₃₂}
 use Rattle.noise.specs.Noise.{next}
 use Rattle.noise_rows.specs.Square.{squareOf, squareWith}

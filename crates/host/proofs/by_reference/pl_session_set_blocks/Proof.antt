@@ -40,15 +40,15 @@ use denote.Triple.Table.{entered, cited}
 use denote.Triple.Walked.{says, Stays, stay-ref, stay-none-slice, gave-slice, walkOf, goes-ref, goes-none-slice, goes-gave-slice, Walks, ends-at, walked, walk-meets}
 use denote.Exit.{yes}
 use denote.Signature.{plain}
-use Rattle.calls.specs.declared.Session.{Session}
-use Rattle.calls.specs.declared.Edited.{Edited}
-use Rattle.calls.specs.Calls.{outcome, batchDoes}
-use Rattle.calls.proofs.Session as S
-use Rattle.calls.proofs.Session.Laws as S′
-use Rattle.calls.proofs.Edited as B
-use Rattle.calls.proofs.Edited.Laws as B′
-use Rattle.calls.proofs.Reply as R
-use Rattle.calls.proofs.Reply.Laws as R′
+use Rattle.session_calls.specs.declared.Session.{Session}
+use Rattle.session_calls.specs.declared.Edited.{Edited}
+use Rattle.session_calls.specs.Calls.{outcome, batchDoes}
+use Rattle.session_calls.proofs.Session as S
+use Rattle.session_calls.proofs.Session.Laws as S′
+use Rattle.session_calls.proofs.Edited as B
+use Rattle.session_calls.proofs.Edited.Laws as B′
+use Rattle.session_calls.proofs.Reply as R
+use Rattle.session_calls.proofs.Reply.Laws as R′
 use Rattle.session_batch.proofs.set_blocks as callee
 use Rattle.session_batch.proofs.set_blocks.Symbol as callee-def
 use Rattle.session_batch.proofs.set_blocks.Symbol.{name as #callee}

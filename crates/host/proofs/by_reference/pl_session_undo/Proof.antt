@@ -39,19 +39,19 @@ use denote.Triple.Clauses.{ensured, lasts}
 use denote.Triple.Table.{entered, cited}
 use denote.Triple.Walked.{says, Stays, stay-ref, gave-slice, walkOf, goes-ref, goes-gave-slice, Walks, ends-at, walked, walk-meets}
 use denote.Signature.{plain}
-use Rattle.calls.specs.declared.Session.{Session}
-use Rattle.calls.specs.declared.Edited.{Edited}
-use Rattle.calls.specs.Calls.{outcome, undoDoes}
-use Rattle.calls.proofs.Session as S
-use Rattle.calls.proofs.Session.Laws as S′
-use Rattle.calls.proofs.Edited as B
-use Rattle.calls.proofs.Edited.Laws as B′
-use Rattle.calls.proofs.Reply as R
-use Rattle.calls.proofs.Reply.Laws as R′
-use Rattle.undo.proofs.undo as callee
-use Rattle.undo.proofs.undo.Symbol as callee-def
-use Rattle.undo.proofs.undo.Symbol.{name as #callee}
-use Rattle.undo.proofs.undo.Met as callee-thm
+use Rattle.session_calls.specs.declared.Session.{Session}
+use Rattle.session_calls.specs.declared.Edited.{Edited}
+use Rattle.session_calls.specs.Calls.{outcome, undoDoes}
+use Rattle.session_calls.proofs.Session as S
+use Rattle.session_calls.proofs.Session.Laws as S′
+use Rattle.session_calls.proofs.Edited as B
+use Rattle.session_calls.proofs.Edited.Laws as B′
+use Rattle.session_calls.proofs.Reply as R
+use Rattle.session_calls.proofs.Reply.Laws as R′
+use Rattle.session_undo.proofs.undo as callee
+use Rattle.session_undo.proofs.undo.Symbol as callee-def
+use Rattle.session_undo.proofs.undo.Symbol.{name as #callee}
+use Rattle.session_undo.proofs.undo.Met as callee-thm
 use Rattle.host.proofs.by_reference.pl_session_undo.Key.{name as #f}
 use Rattle.host.proofs.by_reference.pl_session_undo as f
 use Rattle.host.proofs.by_reference.pl_session_undo.Statement as stated
@@ -165,4 +165,4 @@ pl-session-undo-spec 𝓤 H 𝓜 𝓖 𝓡 =
     entered 𝓤 H (tripleOf 𝓤 H (𝓖 .A) f.signature (f.spec 𝓤 H (𝓖 .A) (𝓜 .mem) (𝓡 .run)))
     (tables 𝓤 H 𝓜 𝓡 code.env .C) (tables 𝓤 H 𝓜 𝓡 code.env .Λ) #f code.function (code.unfolded 𝓤 H 𝓜 𝓡)
     (pl-session-undo-meets 𝓤 H (𝓖 .A) (givenOf 𝓤 H 𝓜 𝓖) (𝓜 .mem) (𝓡 .run) (tablesOf 𝓤 H 𝓜 (tables 𝓤 H 𝓜 𝓡 code.env))
-    (cited 𝓤 H (Callee 𝓤 H (𝓖 .A) (𝓜 .mem) (𝓡 .run)) 𝓜 𝓡 code.env #callee callee-def.routine code.calls-undo·undo (callee-thm.met 𝓤 H 𝓜 𝓖 𝓡)))
+    (cited 𝓤 H (Callee 𝓤 H (𝓖 .A) (𝓜 .mem) (𝓡 .run)) 𝓜 𝓡 code.env #callee callee-def.routine code.calls-session-undo·undo (callee-thm.met 𝓤 H 𝓜 𝓖 𝓡)))

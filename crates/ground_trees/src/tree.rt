@@ -1,0 +1,189 @@
+// Trees: the third pass of terrain.rs, and `place_tree`.
+ghost use mathlib.Core.Bool.{true};
+ghost use mathlib.Core.Path.{_≡_};
+ghost use Prim.Native.Nat.{ℕ, _+_, _-_, _*_, _≤_, _<_};
+ghost use lib.Dec.{eqb};
+ghost use lib.IntN.{pos, _-ℤ_};
+ghost use lib.ListN.{length, getD};
+ghost use lib.Signed.{mag, ltZ};
+ghost use Rattle.grid.specs.Cube.{Cube, seeAt};
+ghost use Rattle.ground_cell.specs.World.{Near, localY};
+ghost use Rattle.ground_trees.specs.Signs.{plus};
+ghost use Rattle.ground_trees.specs.Features.{Canopy, growOf, plantOf, treeHash, varietyOf, treeGrows, isGiant, placeTree, treeColumn, treesOf, topIn};
+use ground_boulders::inset;
+use ground_boulders::pillar;
+use ground_boulders::whole;
+use ground_crown::canopy;
+use grid::see;
+use noise::hash2;
+use ground_cell::block::GRASS;
+use ground_cell::block::LOG;
+use ground_cell::block::gap;
+use ground_cell::world::Frame;
+use ground_cell::world::Top;
+use ground_cell::world::along;
+use ground_cell::world::local_y;
+use num::wrap::wrapping_add;
+use num::wrap::wrapping_mul;
+
+fn grow(
+    cells: &mut [u16],
+    size: usize,
+    oy: i32,
+    x: usize,
+    z: usize,
+    wx: i32,
+    wz: i32,
+    y: usize,
+    trunk: usize,
+    r: usize,
+    n: usize,
+)
+    requires { ⌜ Cube size (now cells) × (x < 64) × (z < 64) × (mag oy ≤ 1000000) × Canopy r n × (1 ≤ trunk) × (y + trunk < 4294967296) ⌝ }
+    ensures { λ _. ⌜ now (cells .exit) ≡ growOf size oy x z wx wz y (pos trunk) r n (now (cells .entry)) ⌝ }
+{
+    pillar(cells, size, oy, x, z, y, trunk, LOG);
+    canopy(cells, size, oy, x, z, wx, wz, y + trunk, r, n);
+}
+
+fn plant(
+    cells: &mut [u16],
+    size: usize,
+    oy: i32,
+    x: usize,
+    z: usize,
+    wx: i32,
+    wz: i32,
+    y: usize,
+    big: bool,
+    v: f32,
+)
+    requires { ⌜ Cube size (now cells) × (x < 64) × (z < 64) × (mag oy ≤ 1000000) × (y < 65536) × (plus v ≡ true) ⌝ }
+    ensures { λ _. ⌜ now (cells .exit) ≡ plantOf size oy x z wx wz y big v (now (cells .entry)) ⌝ }
+{
+    if big {
+        let t = 8 + whole(v * 40.0);
+        grow(cells, size, oy, x, z, wx, wz, y, t, 4, 4);
+        return;
+    }
+    let t = 4 + whole(v * 3.0);
+    grow(cells, size, oy, x, z, wx, wz, y, t, 2, 3);
+}
+
+fn tree_hash(wx: i32, wz: i32) -> f32
+    ensures { λ r. ⌜ r ≡ treeHash wx wz ⌝ }
+{
+    hash2(
+        wrapping_add(wrapping_mul(wx, 7), 1337),
+        wrapping_add(wrapping_mul(wz, 13), 7331),
+    )
+}
+
+fn variety(wx: i32, wz: i32) -> f32
+    ensures { λ r. ⌜ r ≡ varietyOf wx wz ⌝ }
+{
+    hash2(wrapping_add(wx, 42), wrapping_add(wz, 99))
+}
+
+fn tree_grows(b: u8, h: f32) -> bool
+    ensures { λ r. ⌜ r ≡ treeGrows b h ⌝ }
+{
+    if b == 2 {
+        if h > 0.025 {
+            return false;
+        }
+        return true;
+    }
+    if b == 3 {
+        if h > 0.003 {
+            return false;
+        }
+        return true;
+    }
+    false
+}
+
+fn giant(b: u8, v: f32) -> bool
+    ensures { λ r. ⌜ r ≡ isGiant b v ⌝ }
+{
+    (b == 2) & (v < 0.08)
+}
+
+// Whether a column is no more than 2 above the sea.
+fn low(h: u16, sea: i32) -> bool
+    ensures { λ r. ⌜ r ≡ ltZ (pos h -ℤ sea) (pos 3) ⌝ }
+{
+    gap(h as i32, sea) < 3
+}
+
+// Whether the surface below level y is grass.
+fn on_grass(cells: &[u16], size: usize, oy: i32, x: usize, z: usize, y: usize) -> bool
+    requires { ⌜ Cube size (now cells) × (mag oy ≤ 1000000) × (1 ≤ y) × (y < 65536) ⌝ }
+    ensures { λ r. ⌜ r ≡ eqb (seeAt size x (localY size oy (pos (y - 1))) z (now (cells .entry))) 3 ⌝ }
+{
+    let ly = local_y(oy, y - 1, size);
+    see(cells, size, x, ly, z) == GRASS
+}
+
+// A tree where the column is high enough, its hash low enough and its surface grass.
+fn place_tree(
+    cells: &mut [u16],
+    size: usize,
+    oy: i32,
+    sea: i32,
+    t: Top,
+    x: usize,
+    z: usize,
+    wx: i32,
+    wz: i32,
+)
+    requires { ⌜ Cube size (now cells) × (x < 64) × (z < 64) × (mag oy ≤ 1000000) × (1 ≤ t .height) × (t .height < 65536) ⌝ }
+    ensures { λ _. ⌜ now (cells .exit) ≡ placeTree size oy sea t x z wx wz (now (cells .entry)) ⌝ }
+{
+    let h = t.height;
+    let b = t.biome;
+    if low(h, sea) {
+        return;
+    }
+    if tree_grows(b, tree_hash(wx, wz)) {
+        let y = h as usize;
+        if on_grass(cells, size, oy, x, z, y) {
+            let v = variety(wx, wz);
+            plant(cells, size, oy, x, z, wx, wz, y, giant(b, v), v);
+            return;
+        }
+        return;
+    }
+}
+
+fn tree_column(cells: &mut [u16], o: Frame, sea: i32, t: Top, x: usize, z: usize)
+    requires { ⌜ Cube (o .size) (now cells) × Near o × (1 ≤ t .height) × (t .height < 65536) × (x < o .size) × (z < o .size) ⌝ }
+    ensures { λ _. ⌜ now (cells .exit) ≡ treeColumn o sea t x z (now (cells .entry)) ⌝ }
+{
+    let size = o.size;
+    if inset(2, size, x, z) {
+        let wx = along(o.ox, x);
+        let wz = along(o.oz, z);
+        let oy = o.oy;
+        place_tree(cells, size, oy, sea, t, x, z, wx, wz);
+        return;
+    }
+}
+
+// Every column, z outer and x inner.
+pub fn place_trees(o: Frame, sea: i32, heights: &[u16], biomes: &[u8], cells: &mut [u16])
+    requires { ⌜ Near o × (o .size * o .size ≤ length (now heights)) × (o .size * o .size ≤ length (now biomes)) × Cube (o .size) (now cells) × ((k : ℕ) → k < o .size * o .size → 1 ≤ getD (now heights) k 0) ⌝ }
+    ensures { λ _. ⌜ now (cells .exit) ≡ treesOf o sea (topIn (now (heights .entry)) (now (biomes .entry))) (now (cells .entry)) ⌝ }
+{
+    let size = o.size;
+    let n = size * size;
+    let mut k = 0;
+    while k < n {
+        let t = Top {
+            height: heights[k],
+            biome: biomes[k],
+        };
+        tree_column(cells, o, sea, t, k % size, k / size);
+        k += 1;
+    }
+}

@@ -1,4 +1,0 @@
-// A journal of 32,768 bytes, the most there may be.
-fn main() {
-    program::open_map();
-}

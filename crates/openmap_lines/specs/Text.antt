@@ -1,0 +1,54 @@
+-- The lines that the program prints: its first line, and the rows of a map. Assumes nothing.
+use mathlib.Core.List.{List, [], _∷_, _++_}
+use Prim.Native.Nat.{ℕ, zero, suc}
+use Rattle.text.specs.Decimal.{decimal}
+use Rattle.grid.specs.Cube.{seeAt}
+use Rattle.journal_format.specs.Fields.{joinTabs}
+use Rattle.journal_format.specs.Line.{ended}
+
+-- 01, Beside the chain: "Fields are parted by one tab, each line ends in LF"
+unfoldable pub fieldsLine : List (List ℕ) → List ℕ
+unfolding joinTabs
+fieldsLine fs = ended (joinTabs fs)
+
+-- f 0, f 1, .. as fields
+unfoldable pub fieldsOf : ℕ → (ℕ → List ℕ) → List (List ℕ)
+fieldsOf zero f = []
+fieldsOf (suc n) f = fieldsOf n f ++ (f n ∷ [])
+
+-- f 0, f 1, .. one behind the other
+unfoldable pub each : ℕ → (ℕ → List ℕ) → List ℕ
+each zero f = []
+each (suc n) f = each n f ++ f n
+
+-- the fixed strings OK and NO
+abbrev pub OK : List ℕ
+OK = 79 ∷ 75 ∷ []
+
+abbrev pub NO : List ℕ
+NO = 78 ∷ 79 ∷ []
+
+-- "prints OK, lines, standing, count, loose bytes; ..
+unfoldable pub okText : ℕ → ℕ → ℕ → ℕ → List ℕ
+unfolding fieldsLine decimal
+okText lines active count trailing = fieldsLine (OK ∷ decimal lines ∷ decimal active ∷ decimal count ∷ decimal trailing ∷ [])
+
+-- .. then the ids along x, ..
+unfoldable pub rowText : ℕ → List ℕ → ℕ → ℕ → List ℕ
+unfolding fieldsLine fieldsOf decimal seeAt
+rowText size c z y = fieldsLine (fieldsOf size (λ x. decimal (seeAt size x y z c)))
+
+-- .. a row for each y, ..
+unfoldable pub layerText : ℕ → List ℕ → ℕ → List ℕ
+unfolding each rowText
+layerText size c z = each size (rowText size c z)
+
+-- .. then the next z; ..
+unfoldable pub mapText : ℕ → List ℕ → List ℕ
+unfolding each layerText
+mapText size c = each size (layerText size c)
+
+-- .. or NO, number, line."
+unfoldable pub noText : ℕ → ℕ → List ℕ
+unfolding fieldsLine decimal
+noText number line = fieldsLine (NO ∷ decimal number ∷ decimal line ∷ [])

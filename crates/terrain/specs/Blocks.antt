@@ -1,3 +1,0 @@
--- Block ids, and which block a cell below the surface is. Assumes nothing.
-pub use Rattle.blocks.specs.Blocks.{AIR, STONE, DIRT, GRASS, SAND, WATER, SNOW, GRAVEL, LOG, LEAVES}
-unfoldable pub use Rattle.blocks.specs.Blocks.{desertBlock, snowPatch, mountainTop, mountainBlock, shoreBlock, forestBlock, plainsBlock, selectBlock}

@@ -1,2 +1,0 @@
--- Where the ground is hollow. "The noise and hashes of caves, boulders and trees don't take the seed." Assumes nothing.
-unfoldable pub use Rattle.caves.specs.Caves.{spaghettiCave, largeCavern, ravineWith, ravineHere, ravineCut, carved}

@@ -1,0 +1,22 @@
+// Every refusal that a short journal can get, in one run: the journals are the program's own, and their texts go the way of
+// `openmap`, but for the reading.
+fn main() {
+    // Size, seed, sea level and world height off their limits: the size comes first.
+    openmap_main::print_map(b"G\t65536\t4097\t1\t65\t0\t128\t0\nX\n");
+    // Seed, sea level and world height off their limits, and a size above 16: the seed comes first.
+    openmap_main::print_map(b"G\t65536\t4097\t1\t17\t0\t128\t0\nX\n");
+    // Sea level and world height off their limits, and a size above 16: the sea level comes first.
+    openmap_main::print_map(b"G\t65535\t-4097\t1\t17\t0\t128\t0\nX\n");
+    // World height and place off their limits, and a size above 16: the world height comes first.
+    openmap_main::print_map(b"G\t65535\t-4096\t4097\t64\t15625\t128\t0\nX\n");
+    // A place off its limits and a size above 16: the place comes first.
+    openmap_main::print_map(b"G\t65535\t-4096\t4096\t64\t15624\t-15626\t0\nX\n");
+    // A size above 16, and a later line that is bad: the size comes first.
+    openmap_main::print_map(b"G\t0\t4096\t256\t17\t0\t128\t0\nX\n");
+    // A first line without its LF; it has six numbers, and its size is off the limits: the LF comes first.
+    openmap_main::print_map(b"G\t0\t4096\t256\t65\t0\t128");
+    // A first line of six numbers; its size is off the limits, too, and a later line is bad.
+    openmap_main::print_map(b"G\t0\t4096\t256\t65\t0\t128\nX\n");
+    // The third line's column is higher than the chunk.
+    openmap_main::print_map(b"G\t0\t4096\t256\t2\t0\t128\t0\nS\t0\t0\t0\t0\nC\t1\t0\t3\t8\nU\nU\n");
+}

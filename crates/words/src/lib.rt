@@ -1,2 +1,0 @@
-pub mod num;
-pub mod wrap;
