@@ -1,5 +1,4 @@
--- 01, Noise: "Every f32 operation is rounded once, in the order in which the Rust writes it, never fused." Each `add`,
--- `sub`, `mul` and `div` below is one such operation of noise.rs. Assumes nothing.
+-- Sums of octaves (SCOPE 3.7). Each `add`, `mul` and `div` below is one f32 operation of noise.rs (SCOPE 3.1). Assumes nothing.
 use Prim.Native.Nat.{ℕ, zero, suc}
 use lib.Ieee.{Float, binary32, add, mul, div}
 use Rattle.num.specs.Num.{nearest}
@@ -26,7 +25,7 @@ unfoldable pub octaves : (Float → Float) → ℕ → Octaves
 octaves at zero = record { val = num 0; amp = num 1; freq = num 1; max = num 0 }
 octaves at (suc n) = octave at (octaves at n)
 
--- val / max, and "with 0 octaves give 0.5"
+-- val / max, and 0.5 for no octaves
 unfoldable pub fbm : (Float → Float) → ℕ → Float
 fbm at zero = nearest 1 2
 fbm at (suc n) = div binary32 (octaves at (suc n) .val) (octaves at (suc n) .max)

@@ -1,5 +1,4 @@
--- 01, Noise: "Every f32 operation is rounded once, in the order in which the Rust writes it, never fused." Each `add`,
--- `sub`, `mul` and `div` below is one such operation of noise.rs. Assumes nothing.
+-- Value noise of one octave (SCOPE 3.6). Each `add`, `sub` and `mul` below is one f32 operation of noise.rs (SCOPE 3.1). Assumes nothing.
 use Prim.Native.Nat.{ℕ}
 use lib.IntN.{ℤ, pos}
 use lib.Ieee.{Float, binary32, add, sub, mul, ofInt}
@@ -19,7 +18,7 @@ smooth₃₂ t = mul binary32 (mul binary32 t t) (sub binary32 (num 3) (mul bina
 unfoldable pub lerp₃₂ : Float → Float → Float → Float
 lerp₃₂ a b t = add binary32 a (mul binary32 (sub binary32 b a) t)
 
--- smooth(x - ix as f32). "x minus its floor can round to exactly 1.0", which this does not exclude.
+-- smooth(x - ix as f32); the difference may be 1.0, which nothing here excludes
 unfoldable pub ease₃₂ : Float → Float
 ease₃₂ x = smooth₃₂ (sub binary32 x (ofInt binary32 (floorI x)))
 

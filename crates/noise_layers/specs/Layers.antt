@@ -1,4 +1,4 @@
--- Rows of an octave at a level: what is kept of the noise. Assumes nothing.
+-- Rows of an octave at a level: what is kept of the noise (SCOPE 3.6). Assumes nothing.
 use mathlib.Core.Path.{_≡_, refl, sym, ap, _∙_}
 use mathlib.Core.List.{List}
 use mathlib.Core.Bool.{Bool, true, false}

@@ -1,4 +1,4 @@
--- What is read between the rows of a layer is the noise. Assumes nothing.
+-- What is read between the rows of a layer is the noise (SCOPE 3.6). Assumes nothing.
 use mathlib.Core.Path.{_≡_, refl, ap₂, _∙_}
 use mathlib.Core.List.{List}
 use Prim.Native.Nat.{ℕ, _+_, _*_, _<_}

@@ -1,4 +1,4 @@
--- Noise at a row of places, with a square of the lattice that is kept from one place to the next. Assumes nothing.
+-- Noise at a row of places (SCOPE 3.7), with a square of the lattice that is kept from one place to the next. Assumes nothing.
 use mathlib.Core.Path.{_≡_}
 use mathlib.Core.List.{List}
 use Prim.Native.Nat.{ℕ}

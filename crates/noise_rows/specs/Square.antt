@@ -1,4 +1,4 @@
--- A square of the lattice with the hashes of its four corners. Assumes nothing.
+-- A square of the lattice with the hashes of its four corners (SCOPE 3.6). Assumes nothing.
 use lib.IntN.{ℤ}
 use lib.Ieee.{Float}
 use Rattle.noise.specs.Hash.{hash2₃₂}

@@ -1,4 +1,4 @@
--- Octaves that are added along a row whose places the tables tell of. Assumes nothing.
+-- Octaves (SCOPE 3.7) that are added along a row whose places the tables tell of. Assumes nothing.
 use mathlib.Core.Path.{_≡_, refl, ap, ap₂, _∙_, subst}
 use mathlib.Core.List.{List}
 use mathlib.Core.Bool.{Bool, true, false}

@@ -1,4 +1,4 @@
--- Tables of where places lie in the lattice. Assumes nothing.
+-- Tables of where places lie in the lattice (SCOPE 3.6). Assumes nothing.
 use mathlib.Core.Path.{_≡_, refl, ap, _∙_, subst}
 use mathlib.Core.List.{List}
 use mathlib.Core.Bool.{Bool, true, false}

@@ -1,5 +1,5 @@
--- x + 2 ^ 23, for x from 0 to 2 ^ 23, is rounded to a whole number, the floor of the sum or the next. So (x + 2 ^ 23) - 2 ^ 23 is the floor of x or the next, and x - 2 ^ 23 + 2 ^ 23 serves for the negative ones.
--- Assumes nothing.
+-- x + 2 ^ 23, for x from 0 to 2 ^ 23, is rounded to a whole number, the floor of the sum or the next. So (x + 2 ^ 23) - 2 ^ 23
+-- is the floor of x or the next, and x - 2 ^ 23 + 2 ^ 23 serves for the negative ones. Assumes nothing.
 use mathlib.Core.Path.{_≡_, refl, sym, ap, ap₂, _∙_, subst}
 use mathlib.Core.Logic.{_⊎_, inl, inr}
 use Prim.Native.Nat.{ℕ, zero, suc, _+_, _-_, _*_, _/_, _%_, _^_, _≤_, _<_, compare, Ordering, Ordering·lt, Ordering·eq, Ordering·gt, compare·zero-suc, min}

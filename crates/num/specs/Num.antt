@@ -1,5 +1,4 @@
--- 01, Noise: "floor, absolute value, clamp, max and number conversion are worked out by the program", for every f32.
--- Assumes nothing.
+-- Constants and the floor (SCOPE 3.2), for every f32; the functions of `num_float`, re-exported. Assumes nothing.
 use Prim.Native.Nat.{ℕ, suc, _/_, _%_, _^_}
 use mathlib.Core.Bool.{Bool, true, false, cond}
 use lib.Dec.{eqb}
@@ -17,7 +16,7 @@ abbrev pub floorQ : Bool → ℕ → ℕ → ℤ
 floorQ false a d = pos (a / d)
 floorQ true a d = negℤ (pos (cond (eqb (a % d) 0) (a / d) (suc (a / d))))
 
--- "floor". fin s m e is m * 2 ^ e with m odd or zero: whole where e is not negative, and else with a fraction.
+-- fin s m e is m * 2 ^ e with m odd or zero: whole where e is not negative, and else with a fraction.
 -- So a whole number, -0, an infinity and a NaN stay as they are.
 unfoldable pub floor₃₂ : Float → Float
 floor₃₂ nan = nan

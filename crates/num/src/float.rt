@@ -1,4 +1,4 @@
-// floor, for every f32: NaN, infinities, both zeros and subnormals too; and the other numeric functions of `floats`.
+// floor, for every f32: NaN, infinities, both zeros and subnormals too; and the other numeric functions, of `num_float`.
 ghost use mathlib.Core.Path.{_≡_};
 ghost use lib.Ieee.{binary32, ofInt};
 ghost use Rattle.num.specs.Num.{floor₃₂, floorI};

@@ -1,4 +1,4 @@
--- Facts of 32-bit integers that the proofs of `wrapping` cite. Assumes nothing.
+-- Facts of 32-bit integers that the proofs of `num_wrap` cite. Assumes nothing.
 use mathlib.Core.Path.{_≡_, refl, sym, ap, _∙_, subst}
 use Prim.Native.Nat.{ℕ, zero, suc, _-_, _^_, _<_}
 use native.Mathlib.Omega.{arith}

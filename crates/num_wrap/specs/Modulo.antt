@@ -1,4 +1,4 @@
--- What "modulo 2^32" and ">>" mean over the integers: laws of Wrap. Assumes nothing.
+-- What wrapping and the right shift (SCOPE 3.3) mean over the integers: laws of Wrap. Assumes nothing.
 use mathlib.Core.Path.{_≡_, refl, sym, ap, ap₂, _∙_, subst}
 use mathlib.Core.Bool.{Bool, true, false, cond}
 use Prim.Native.Nat.{ℕ, zero, suc, _+_, _-_, _*_, _/_, _%_, _^_, _≤_, _<_}
