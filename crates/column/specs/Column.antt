@@ -1,4 +1,4 @@
--- The height and the biome of a column, every f32 operation rounded once, in the order of `terrain.rs`. Assumes nothing.
+-- The height and the biome of a column (SCOPE 4.1 to 4.6), every f32 operation rounded once, in the order of `terrain.rs`. Assumes nothing.
 use mathlib.Core.Bool.{Bool, _&&_, cond}
 use lib.IntN.{ℤ, pos}
 use lib.Ieee.{Float, neg, le}
@@ -11,6 +11,7 @@ use Rattle.column.specs.declared.Surface.{Surface}
 use Rattle.column.specs.declared.Biome.{Biome}
 use Rattle.column.specs.declared.Biome.the-variants.{Desert, Mountain, Forest, Plains}
 
+-- SCOPE 4.4: the noise that shapes the heights
 unfoldable pub reliefOf : Float → Float → Relief
 reliefOf x z = record {
   continent = continent₃₂ x z;
@@ -22,7 +23,7 @@ reliefOf x z = record {
   «hill_factor» = offsetFbm₃₂ x z (nearest 1 100) (nat 150) (nat 250) 3;
 }
 
--- 01, Column: "The climate values, four weights and four heights of a column are kept together as one f32 record."
+-- SCOPE 4.6: all that is known of a column, two values of climate, four weights, four heights
 abbrev pub columnWith : Float → Float → Float → Float → Float → Float → Float → Float → Float → Float → Column
 columnWith temp moisture dw mw fw pw dh mh fh ph = record {
   temp = temp;
@@ -37,13 +38,13 @@ columnWith temp moisture dw mw fw pw dh mh fh ph = record {
   «plains_h» = ph;
 }
 
--- the climate; no weights and heights yet
+-- SCOPE 4.2: the climate; no weights and heights yet
 unfoldable pub climateOf : Float → Float → Column
 climateOf x z =
     columnWith (offsetFbm₃₂ x z (nearest 3 1000) (nat 100) (nat 100) 4) (offsetFbm₃₂ x z (nearest 4 1000) (neg (nat 200)) (nat 300) 4)
     (nat 0) (nat 0) (nat 0) (nat 0) (nat 0) (nat 0) (nat 0) (nat 0)
 
--- hot and dry; cold; wet, where the other two leave room; the rest, and at least 0.01
+-- SCOPE 4.3: hot and dry; cold; wet, where the other two leave room; the rest, and at least 0.01
 unfoldable pub desertWeight₃₂ : Column → Float
 desertWeight₃₂ c = smoothRamp₃₂ (c .temp) (nearest 6 10) (nearest 1 10) *f smoothRamp₃₂ (neg (c .moisture)) (neg (nearest 35 100)) (nearest 1 10)
 
@@ -65,6 +66,7 @@ withShares c d m f p =
 unfoldable pub weightsOf : Column → Column
 weightsOf c = withShares c (desertWeight₃₂ c) (mountainWeight₃₂ c) (forestWeight₃₂ c) (plainsWeight₃₂ c)
 
+-- SCOPE 4.5, with the sea level sl added
 unfoldable pub heightsOf : Column → Relief → Float → Column
 heightsOf c n sl =
     columnWith (c .temp) (c .moisture) (c .dw) (c .mw) (c .fw) (c .pw)
@@ -77,13 +79,14 @@ heightsOf c n sl =
 unfoldable pub columnOf : Float → Float → Float → Column
 columnOf x z sl = heightsOf (weightsOf (climateOf x z)) (reliefOf x z) sl
 
+-- SCOPE 4.6: the heights, blended by their weights
 unfoldable pub blend₃₂ : Column → Float
 blend₃₂ c = c .dw *f c .«desert_h» +f c .mw *f c .«mountain_h» +f c .fw *f c .«forest_h» +f c .pw *f c .«plains_h»
 
 abbrev pub atLeast : Float → Float → Bool
 atLeast a b = le b a
 
--- "Equal weights: Desert, Mountain, Forest, Plains, the first named wins."
+-- the greatest weight's biome; where weights are equal, the one that is asked for first
 unfoldable pub dominantOf : Column → Biome
 dominantOf c =
     cond (atLeast (c .dw) (c .mw) && atLeast (c .dw) (c .fw) && atLeast (c .dw) (c .pw)) Desert
@@ -92,7 +95,7 @@ dominantOf c =
 unfoldable pub heightOf : Column → ℤ → ℤ
 heightOf c maxHeight = clampOf (toI32 (blend₃₂ c)) (pos 1) maxHeight
 
--- the column at world coordinates; the seed only moves the coordinates
+-- SCOPE 4.1: the column at world coordinates; the seed only moves the coordinates
 unfoldable pub columnAt : ℤ → ℤ → ℤ → Float → Column
 columnAt wx wz sea seedOffset = columnOf (real wx +f seedOffset) (real wz +f seedOffset) (real sea)
 

@@ -1,4 +1,4 @@
--- A column's height lies in 1 to the greatest height. Assumes nothing.
+-- A column's height lies in 1 to the greatest height (SCOPE 4.6). Assumes nothing.
 use mathlib.Core.Path.{_≡_, refl}
 use Prim.Native.Nat.{ℕ, _≤_}
 use native.Mathlib.Omega.{arith}
@@ -30,7 +30,7 @@ pub height-within : (c : Column) (top : ℕ) → 1 ≤ top → Range top (height
 unfolding heightOf
 height-within c top h = clamped (toI32 (blend₃₂ c)) top h
 
--- 01, Column: "Height lies in 1 to world height − 1."
+-- so does the height of each column of the world
 pub height-range : (wx wz sea : ℤ) (top : ℕ) (seedOffset : Float) → 1 ≤ top → Range top (biomeAndHeight wx wz sea (pos top) seedOffset .height)
 unfolding biomeAndHeight
 height-range wx wz sea top seedOffset h = height-within (columnAt wx wz sea seedOffset) top h

@@ -1,5 +1,5 @@
 // The height and the biome of a column of the world: `get_biome` of terrain.rs. With `climate` and `relief_at` it is the plain form, a column at a
-// time, which nothing calls: `tops` notes a chunk's columns by rows and tables, equal to the same definitions, and calls `surface_of` alone.
+// time, which nothing calls: `column_tops` notes a chunk's columns by rows and tables, equal to the same definitions, and takes `surface_of` alone.
 ghost use mathlib.Core.Path.{_≡_};
 ghost use Rattle.column.specs.Column.{reliefOf, climateOf, weightsOf, heightsOf, blend₃₂, dominantOf, heightOf, surfaceOf, biomeAndHeight};
 use column_shapes::clamp_i32;

@@ -1,4 +1,4 @@
--- Climate and relief in rows are those of `climate` and `relief_at`. Assumes nothing.
+-- Climate and relief in rows (SCOPE 4.2, 4.4) are those of `climate` and `relief_at`. Assumes nothing.
 use mathlib.Core.Path.{_≡_, ap, ap₂, _∙_}
 use Prim.Native.Nat.{ℕ, _<_}
 use mathlib.Core.List.{List}

@@ -1,4 +1,4 @@
--- A column's climate and relief, of the rows that hold their noise. Assumes nothing.
+-- A column's climate and relief (SCOPE 4.2, 4.4), of the rows that hold their noise. Assumes nothing.
 use mathlib.Core.List.{List}
 use Prim.Native.Nat.{ℕ}
 use lib.Ieee.{Float}

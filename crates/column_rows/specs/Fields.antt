@@ -1,4 +1,4 @@
--- The tables tell of every field of a column's noise, so a sum by them is the noise of that field. Assumes nothing.
+-- The tables tell of every field of a column's noise (SCOPE 4.2, 4.4), so a sum by them is the noise of that field. Assumes nothing.
 use mathlib.Core.Path.{_≡_, refl, subst}
 use mathlib.Core.List.{List}
 use Prim.Native.Nat.{ℕ, zero, suc, _+_, _*_, _≤_, _<_}

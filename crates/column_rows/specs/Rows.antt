@@ -1,4 +1,4 @@
--- A row of columns at one z: what `get_biome` asks of the noise, place by place. Assumes nothing.
+-- A row of columns at one z: what `get_biome` asks of the noise (SCOPE 4.2, 4.4), place by place. Assumes nothing.
 use Prim.Native.Nat.{ℕ}
 use mathlib.Core.List.{List}
 use lib.Ieee.{Float, neg}

@@ -1,4 +1,4 @@
--- The operations of f32, each rounded once, under short names. Assumes nothing.
+-- The operations of f32 (SCOPE 3.1), under short names. Assumes nothing.
 use Prim.Native.Nat.{ℕ}
 use lib.IntN.{ℤ}
 use lib.Ieee.{Float, binary32, add, sub, mul, div, ofInt}

@@ -1,4 +1,4 @@
--- 01, Column: the noise and the curves of `get_biome`, each f32 operation in the Rust's order. Assumes nothing.
+-- The noise and the curves of `get_biome` (SCOPE 4.2 to 4.5), each f32 operation in the Rust's order. Assumes nothing.
 use Prim.Native.Nat.{ℕ}
 use mathlib.Core.Bool.{cond}
 use lib.IntN.{ℤ}
@@ -14,7 +14,7 @@ offsetFbm₃₂ x z scale dx dz octaves = fbm2d₃₂ (x *f scale +f dx) (z *f s
 unfoldable pub scaledFbm₃₂ : Float → Float → Float → ℕ → Float
 scaledFbm₃₂ x z scale octaves = fbm2d₃₂ (x *f scale) (z *f scale) octaves
 
--- t * t * (3 - 2 * t), t from 0 to 1 across the width around the edge
+-- SCOPE 4.3: t * t * (3 - 2 * t), t from 0 to 1 across the width around the edge
 unfoldable pub smoothRamp₃₂ : Float → Float → Float → Float
 smoothRamp₃₂ val edge width = smooth₃₂ (clamp₃₂ ((val -f edge) /f width +f nearest 1 2) (nat 0) (nat 1))
 

@@ -1,4 +1,4 @@
--- The x of a row of columns, as each octave of their noise takes it. Assumes nothing.
+-- The x of a row of columns, as each octave of their noise (SCOPE 4.2, 4.4) takes it. Assumes nothing.
 use mathlib.Core.List.{List}
 use mathlib.Core.Bool.{cond}
 use Prim.Native.Nat.{ℕ, _-_}

@@ -1,4 +1,4 @@
--- Rows of columns make up the chunk's columns, and a row's noise gives their tops. Assumes nothing.
+-- Rows of columns make up the chunk's columns, and a row's noise gives their tops (SCOPE 4.6). Assumes nothing.
 use mathlib.Core.Path.{_≡_, sym, ap, ap₂, _∙_, subst}
 use mathlib.Core.List.{List, _++_}
 use Prim.Native.Nat.{ℕ, zero, suc, _+_, _*_, _≤_, _<_}

@@ -1,4 +1,4 @@
--- The tops of a chunk's columns, row by row. Assumes nothing.
+-- The tops of a chunk's columns (SCOPE 4.6), row by row. Assumes nothing.
 use mathlib.Core.Path.{_≡_}
 use mathlib.Core.List.{List}
 use Prim.Native.Nat.{ℕ, _+_, _≤_, _<_}
@@ -20,7 +20,7 @@ use Rattle.ground_cell.specs.declared.world.Top.{Top}
 unfoldable pub topOf : Surface → Top
 topOf s = topWith (natAbs (s .height)) (biomeNumber (s .biome))
 
--- the coordinates that `get_biome` gives to the noise, along x and along z
+-- SCOPE 4.1: the coordinates that `get_biome` gives to the noise, along x and along z
 unfoldable pub xAt : World → Frame → ℕ → Float
 xAt w o i = real (o .ox +ℤ pos i) +f w .«seed_offset»
 
