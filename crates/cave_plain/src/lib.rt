@@ -1,5 +1,5 @@
 // Where the ground is hollow: the caves of terrain.rs. They do not take the seed. `cave` and what it calls is the plain form, a cell at a time, which
-// nothing calls: `hollow` works caves out by rows and levels, equal to the same definition, and `ravines` calls `ravine_with` alone.
+// nothing calls: `cave_rows` works caves out by rows and levels, equal to the same definition, and `cave_ravines` calls `ravine_with` alone.
 ghost use mathlib.Core.Path.{_≡_};
 ghost use Rattle.cave_plain.specs.Caves.{spaghettiCave, largeCavern, ravineWith, ravineHere, ravineCut, carved};
 use noise::fbm2d;

@@ -1,4 +1,4 @@
--- A row of columns and the ravines. Assumes nothing.
+-- A row of columns and the ravines (SCOPE 4.10). Assumes nothing.
 use mathlib.Core.Path.{_≡_, refl, ap, ap₂, _∙_, subst}
 use mathlib.Core.List.{List}
 use mathlib.Core.Bool.{Bool, false}

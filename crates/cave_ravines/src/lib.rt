@@ -1,4 +1,4 @@
-// Which columns of a chunk's row lie on a ravine: `ravine_here` of `caves`, with the larger noise worked out by rows.
+// Which columns of a chunk's row lie on a ravine: `ravine_here` of `cave_plain`, with the larger noise worked out by rows.
 ghost use mathlib.Core.Path.{_≡_};
 ghost use Prim.Native.Nat.{_≤_, _<_};
 ghost use lib.ListN.{length};
@@ -26,7 +26,7 @@ fn cut_row(f: Frame, z: f32, vals: &[f32], cuts: &mut [bool])
     }
 }
 
-// The tables are those of `cave_coords`.
+// The tables are those of `cave_tables`.
 pub fn note_cuts(f: Frame, z: usize, floors: &[u32], eases: &[f32], cuts: &mut [bool])
     requires { ⌜ Near f × (z < f .size) × Noted (f .size) 27 (coordOf f) (now floors) (now eases) × (length (now floors) ≡ 1728) × (length (now eases) ≡ 1728) × (f .size ≤ length (now cuts)) ⌝ }
     ensures { λ _. ⌜ Cuts f z (now (cuts .exit)) ⌝ }

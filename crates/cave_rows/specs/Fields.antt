@@ -1,4 +1,4 @@
--- The sums of octaves along a row, and what they say of its cells. Assumes nothing.
+-- The sums of octaves along a row, and what they say of its cells (SCOPE 4.10). Assumes nothing.
 use mathlib.Core.Path.{_≡_}
 use mathlib.Core.List.{List}
 use mathlib.Core.Bool.{Bool, false, _&&_, _||_}

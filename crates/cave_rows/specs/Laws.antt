@@ -1,4 +1,4 @@
--- The sums by the tables are those of the noise, and the flags those of the caves. Assumes nothing.
+-- The sums by the tables are those of the noise, and the flags those of the caves (SCOPE 4.10). Assumes nothing.
 use mathlib.Core.Path.{_≡_, refl, ap, ap₂, _∙_, subst}
 use mathlib.Core.List.{List}
 use mathlib.Core.Bool.{Bool, _&&_, _||_}

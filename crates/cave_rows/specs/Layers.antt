@@ -1,4 +1,4 @@
--- The layers of all octaves at a level. Assumes nothing.
+-- The layers of all octaves at a level, for the noise of caves (SCOPE 4.10). Assumes nothing.
 use mathlib.Core.Path.{_≡_, refl, _∙_, subst}
 use mathlib.Core.List.{List}
 use mathlib.Core.Bool.{Bool, true, false}

@@ -1,5 +1,5 @@
 // Caves by levels: the same answers as `cave` gives cell by cell, for a row of columns at one level, with what its cells
-// share worked out once. The tables are those of `cave_coords`; the edges keep, of each of the eight octaves, the four
+// share worked out once. The tables are those of `cave_tables`; the edges keep, of each of the eight octaves, the four
 // rows of the lattice layer that the level lies in.
 ghost use mathlib.Core.Path.{_≡_};
 ghost use Prim.Native.Nat.{_+_, _*_, _≤_, _<_};

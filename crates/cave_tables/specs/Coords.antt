@@ -1,4 +1,4 @@
--- A chunk's coordinates, as the octaves of the caves' noise take them. Assumes nothing.
+-- A chunk's coordinates, as the octaves of the caves' noise (SCOPE 4.10) take them. Assumes nothing.
 use mathlib.Core.Bool.{cond}
 use Prim.Native.Nat.{ℕ, _-_}
 use lib.Dec.{eqb, ltb}
