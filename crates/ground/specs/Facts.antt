@@ -1,4 +1,4 @@
--- What holds where `generate` refuses nothing. Assumes nothing.
+-- What holds where `generate` refuses nothing (SCOPE 2). Assumes nothing.
 use mathlib.Core.Path.{_≡_, ap, _∙_}
 use Prim.Native.Nat.{ℕ, _-_, _*_}
 use native.Mathlib.Omega.{arith}

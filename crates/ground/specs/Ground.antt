@@ -1,4 +1,4 @@
--- The ground of a chunk, and what `generate` does. Assumes nothing.
+-- The ground of a chunk, and what `generate` does (SCOPE 4.15). Assumes nothing.
 use mathlib.Core.Path.{_≡_, sym, ap}
 use Prim.Native.Nat.{ℕ, _*_}
 use mathlib.Core.List.{List, [], _∷_}
@@ -19,7 +19,7 @@ unfoldable pub use Rattle.ground_chunk.specs.Laid.{groundIn}
 use Rattle.ground.specs.declared.Generated.{Generated}
 use Rattle.ground.specs.declared.Generated.the-variants.{Count, Refused}
 
--- the seed moves the coordinates by 1,000 a step; the greatest height is one below the world's
+-- SCOPE 4.1: the seed moves the coordinates by 1,000 a step; the greatest height is one below the world's
 abbrev pub worldWith : Float → ℤ → ℤ → World
 worldWith offset sea top = record { «seed_offset» = offset; «sea_level» = sea; «max_height» = top }
 
@@ -36,7 +36,7 @@ frameOf s p = frameWith (p .cx *ℤ pos (s .«chunk_size»)) (p .cy *ℤ pos (s 
 unfoldable pub ground : TerrainConfig → ChunkPos → List ℕ
 ground s p = groundIn (worldOf s) (frameOf s p)
 
--- 1 to 5 by the limits, then "6 cell slice .. not size³ long"; 0 is no refusal
+-- 1 to 5 by the limits, then 6 by the number of cells; 0 is no refusal
 unfoldable pub generateRefusal : TerrainConfig → ChunkPos → ℕ → ℕ
 generateRefusal s p n = refusal (passed (limitRefusal (configHeader s p)) ∷ must (eqb n (s .«chunk_size» * s .«chunk_size» * s .«chunk_size»)) 6 ∷ [])
 

@@ -1,4 +1,4 @@
--- What holds of the ground of every chunk, by settings and place. Assumes nothing.
+-- What holds of the ground of every chunk, by settings and place (SCOPE 4.6, 4.8). Assumes nothing.
 use mathlib.Core.Path.{_≡_, sym, _∙_, subst}
 use Prim.Native.Nat.{ℕ, _-_, _*_, _≤_, _<_}
 use mathlib.Core.Bool.{true}
@@ -36,7 +36,7 @@ pub ground-ids : (s : TerrainConfig) (p : ChunkPos) (i : ℕ) → getD (ground s
 unfolding ground
 ground-ids s p i = grown (worldOf s) (frameOf s p) .ids (base-ids (worldOf s) (frameOf s p)) i
 
--- 01, Cell: "Cells at or below wy 0 are solid."
+-- SCOPE 4.8: from level 0 down no cell is air
 pub ground-solid : (s : TerrainConfig) (p : ChunkPos) → limitRefusal (configHeader s p) ≡ 0 → (x y z : ℕ) → x < s .«chunk_size» → y < s .«chunk_size»
     → z < s .«chunk_size» → leZ (p .cy *ℤ pos (s .«chunk_size») +ℤ pos y) (pos 0) ≡ true → 0 < getD (ground s p) (cellIndex (s .«chunk_size») x y z) 0
 unfolding ground frameOf
@@ -47,7 +47,7 @@ ground-solid s p l x y z hx hy hz e =
     grown w o .full (cellIndex (o .size) x y z)
     (subst (λ (u : ℕ). 0 < u) (sym (base-at w o x y z hx hy hz)) (base-solid w t (o .ox +ℤ pos x) (o .oy +ℤ pos y) (o .oz +ℤ pos z) e))
 
--- 01, Column: "Height lies in 1 to world height − 1."
+-- SCOPE 4.6: a column's height is at least 1 and below the world's
 pub record HeightRange (s : TerrainConfig) (p : ChunkPos) (wx wz : ℤ) : Type 0 where
   pub top : ℕ
   pub is : s .«world_height_blocks» ≡ pos top

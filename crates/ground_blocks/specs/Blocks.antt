@@ -1,4 +1,4 @@
--- Block ids, and which block a cell below the surface is. Assumes nothing.
+-- Block ids, and which block a cell below the surface is (SCOPE 4.9). Assumes nothing.
 use Prim.Native.Nat.{ℕ}
 use mathlib.Core.Bool.{Bool, cond}
 use lib.IntN.{ℤ, pos, _-ℤ_}
@@ -40,11 +40,11 @@ LOG = 8
 abbrev pub LEAVES : ℕ
 LEAVES = 9
 
--- up to a depth of 4, then of 8
+-- sand up to a depth of 4, gravel up to 8
 unfoldable pub desertBlock : ℤ → ℕ
 desertBlock depth = cond (ltZ depth (pos 5)) SAND (cond (ltZ depth (pos 9)) GRAVEL STONE)
 
--- "on high mountain tops, a hash": of the level and the height
+-- whether snow lies on a high top: a hash of the level and the height
 unfoldable pub snowPatch : ℤ → ℤ → Bool
 snowPatch wy height = lt (nearest 1 2) (hash2₃₂ (mulW wy (pos 3)) (mulW height (pos 7)))
 
@@ -66,7 +66,7 @@ forestBlock depth height sea = cond (ltZ depth (pos 2)) (shoreBlock height sea) 
 unfoldable pub plainsBlock : ℤ → ℤ → ℤ → ℕ
 plainsBlock depth height sea = cond (ltZ depth (pos 2)) (shoreBlock height sea) (cond (ltZ depth (pos 5)) DIRT STONE)
 
--- 01, Cell: "the biome decides by ranges of depth and height", depth = height − wy
+-- by biome; the depth is height − wy
 unfoldable pub selectBlock : Biome → ℤ → ℤ → ℤ → ℕ
 selectBlock Desert wy height sea = desertBlock (height -ℤ wy)
 selectBlock Mountain wy height sea = mountainBlock (height -ℤ wy) wy height

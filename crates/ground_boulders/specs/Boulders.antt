@@ -1,4 +1,4 @@
--- Boulders, as steps on the list of cells in the order of `terrain.rs`. Assumes nothing.
+-- Boulders (SCOPE 4.11), as steps on the list of cells in the order of `terrain.rs`. Assumes nothing.
 use Prim.Native.Nat.{ℕ, _+_, _*_, _/_, _%_}
 use mathlib.Core.Bool.{Bool, _&&_, cond}
 use mathlib.Core.List.{List}
@@ -23,7 +23,7 @@ use Rattle.ground_boulders.specs.Signs.{rangeLength}
 unfoldable pub insetIn : ℕ → ℕ → ℕ → ℕ → Bool
 insetIn m size x z = leb m x && ltb (x + m) size && leb m z && ltb (z + m) size
 
--- n blocks v in column (x, z), from level y of the world up; "What falls outside the chunk is lost."
+-- n blocks v in column (x, z), from level y of the world up, those in the chunk (SCOPE 4.14)
 unfoldable pub pillarStep : ℕ → ℤ → ℕ → ℕ → ℕ → ℕ → ℕ → List ℕ → List ℕ
 pillarStep size oy x z y v j c = putAt size x (localY size oy (pos (y + j))) z v c
 
@@ -37,7 +37,7 @@ boulderHash wx wz = hash2₃₂ (addW (mulW wx (pos 31)) (pos 555)) (addW (mulW 
 unfoldable pub boulderHeight : Float → ℤ
 boulderHeight h = pos 2 +ℤ toI32 (h *f nat 500)
 
--- how many blocks are laid at a hash: none where it exceeds 0.006 (01, Marked h)
+-- how many blocks are laid at a hash: none where it exceeds 0.006 (SCOPE 12 h)
 unfoldable pub boulderBlocks : Float → ℕ
 boulderBlocks h = cond (lt (nearest 6 1000) h) 0 (rangeLength (boulderHeight h))
 
@@ -45,7 +45,7 @@ boulderBlocks h = cond (lt (nearest 6 1000) h) 0 (rangeLength (boulderHeight h))
 unfoldable pub placeBoulder : ℕ → ℤ → Top → ℕ → ℕ → Float → List ℕ → List ℕ
 placeBoulder size oy t x z h c = cond (eqb (t .biome) 1) (pillarOf size oy x z (t .height) (boulderBlocks h) STONE c) c
 
--- "Boulders stand on columns 1 to size − 2"
+-- the columns on the chunk's rim have none
 unfoldable pub boulderColumn : Frame → Top → ℕ → ℕ → List ℕ → List ℕ
 boulderColumn o t x z c = cond (insetIn 1 (o .size) x z) (placeBoulder (o .size) (o .oy) t x z (boulderHash (o .ox +ℤ pos x) (o .oz +ℤ pos z)) c) c
 
@@ -56,7 +56,7 @@ topOf w o k = topWith (columnHeight w o k) (columnBiome w o k)
 abbrev pub topIn : List ℕ → List ℕ → ℕ → Top
 topIn hs bs k = topWith (getD hs k 0) (getD bs k 0)
 
--- all columns, "z outer, x inner"; column k has the top t k
+-- column after column, x varying fastest; column k has the top t k
 unfoldable pub boulderStep : Frame → (ℕ → Top) → ℕ → List ℕ → List ℕ
 boulderStep o t k c = boulderColumn o (t k) (k % o .size) (k / o .size) c
 

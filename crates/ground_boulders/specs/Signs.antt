@@ -1,4 +1,4 @@
--- A hash is not negative, nor is what it is multiplied to: so a conversion to a whole number has no sign to lose. Assumes nothing.
+-- A hash is not negative (SCOPE 3.5), nor is what it is multiplied to: so a conversion to a whole number has no sign to lose. Assumes nothing.
 use mathlib.Core.Path.{_≡_, refl, sym, ap, subst}
 use Prim.Native.Nat.{ℕ, zero, suc, _+_, _-_, _*_, _/_, _%_, _^_, compare}
 use mathlib.Core.Bool.{Bool, true, false, not, cond}

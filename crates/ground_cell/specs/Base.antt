@@ -1,4 +1,4 @@
--- The chunk before boulders and trees. Assumes nothing.
+-- The chunk before boulders and trees (SCOPE 4.6 to 4.10). Assumes nothing.
 use mathlib.Core.Path.{_≡_}
 use Prim.Native.Nat.{ℕ, _*_, _/_, _%_, _≤_, _<_}
 use mathlib.Core.List.{List}

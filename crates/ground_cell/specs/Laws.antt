@@ -1,4 +1,4 @@
--- What holds of every column and every cell of the base. Assumes nothing.
+-- What holds of every column and every cell of the base (SCOPE 4.6 to 4.10). Assumes nothing.
 use mathlib.Core.Path.{_≡_, refl, sym, ap, ap₂, _∙_, subst}
 use Prim.Native.Nat.{ℕ, _*_, _/_, _%_, _≤_, _<_}
 use native.Mathlib.Omega.{arith}
@@ -125,7 +125,7 @@ deep : (h : ℕ) (wy : ℤ) → 1 ≤ h → leZ wy (pos 0) ≡ true → (leZ (po
 deep h (pos n) p e = let k = leb-true n 0 e in (lt-leb h n (omega arith), le-ltb 0 n (omega arith))
 deep h (negsuc n) p e = (refl, refl)
 
--- 01, Cell: "Cells at or below wy 0 are solid."
+-- SCOPE 4.8: from level 0 down no cell is air
 pub base-solid : (w : World) (t : Tall w) (wx wy wz : ℤ) → leZ wy (pos 0) ≡ true → 1 ≤ baseCell w wx wy wz
 unfolding baseCell cellUnder cellWith topAt columnCell groundCell
 base-solid w t wx wy wz e =

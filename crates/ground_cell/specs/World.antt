@@ -1,4 +1,4 @@
--- The base of the ground as a function of world coordinates: a chunk's size has no part in it. Assumes nothing.
+-- The base of the ground (SCOPE 4.6 to 4.10) as a function of world coordinates: a chunk's size has no part in it. Assumes nothing.
 use mathlib.Core.Path.{_≡_}
 use Prim.Native.Nat.{ℕ, _≤_}
 use mathlib.Core.Bool.{Bool, true, false, _&&_, cond}
@@ -23,7 +23,7 @@ pub record Tall (w : World) : Type 0 where
   pub most : top ≤ 4095
   pub sea : mag (w .«sea_level») ≤ 1000000
 
--- a chunk within the limits
+-- a chunk within the limits of SCOPE 2.2
 pub record Near (o : Frame) : Type 0 where
   pub some : 1 ≤ o .size
   pub most : o .size ≤ 64
@@ -54,12 +54,11 @@ topWith h b = record { height = h; biome = b }
 unfoldable pub topAt : World → ℤ → ℤ → Top
 topAt w wx wz = topWith (heightAt w wx wz) (biomeNumber (biomeAt w wx wz))
 
--- "Below height: caves only where 0 < wy < height − 1; otherwise the biome decides"; level says whether the level admits a cave,
--- hollow whether one is there
+-- SCOPE 4.8; level says whether the level admits a cave, hollow whether one is there
 unfoldable pub groundCell : Bool → Bool → Biome → ℤ → ℤ → ℤ → ℕ
 groundCell level hollow b wy h sea = cond (level && hollow) AIR (selectBlock b wy h sea)
 
--- "At wy ≥ height: water (5) below sea level, even above the world's top; else air (0)."
+-- SCOPE 4.7 where the flag is true, which says that the level is not below the height; else 4.8
 unfoldable pub columnCell : Bool → Bool → Biome → ℤ → ℤ → ℤ → ℕ
 columnCell true hollow b wy h sea = cond (ltZ wy sea) WATER AIR
 columnCell false hollow b wy h sea = groundCell (ltZ (pos 0) wy && ltZ wy (h -ℤ pos 1)) hollow b wy h sea

@@ -1,4 +1,4 @@
--- The ground of a chunk, by world and frame. Assumes nothing.
+-- The ground of a chunk (SCOPE 4.7 to 4.14), by world and frame. Assumes nothing.
 use mathlib.Core.Path.{_≡_, refl, ap, _∙_}
 use Prim.Native.Nat.{ℕ, zero, suc, _*_, _/_, _%_, _<_}
 use native.Mathlib.Omega.{arith}

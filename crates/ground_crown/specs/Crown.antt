@@ -1,4 +1,4 @@
--- The leaves of a tree, as steps on the list of cells in the order of `terrain.rs`. Assumes nothing.
+-- The leaves of a tree (SCOPE 4.13), as steps on the list of cells in the order of `terrain.rs`. Assumes nothing.
 use Prim.Native.Nat.{ℕ, _+_, _-_, _*_, _/_, _%_, max}
 use mathlib.Core.Bool.{Bool, true, false, not, cond}
 use mathlib.Core.List.{List}
@@ -16,7 +16,7 @@ use Rattle.grid.specs.Cube.{cellIndex, inside, steps, tab}
 use Rattle.ground_cell.specs.Blocks.{LEAVES}
 use Rattle.ground_cell.specs.World.{localY}
 
--- "leaves fill air only"
+-- only where there is air (SCOPE 4.14)
 unfoldable pub leafAt : ℕ → ℕ → ℕ → ℕ → List ℕ → List ℕ
 leafAt size x y z c = cond (inside size x y z) (cond (eqb (getD c (cellIndex size x y z) 0) 0) (set c (cellIndex size x y z) LEAVES) c) c
 
@@ -31,8 +31,7 @@ squareGap i r = (i - r + (r - i)) * (i - r + (r - i))
 unfoldable pub leafHash : ℤ → ℤ → ℕ → ℕ → ℕ → ℕ → Float
 leafHash wx wz r l i m = hash2₃₂ (addW wx (pos i -ℤ pos r)) (addW (addW wz (pos m -ℤ pos r)) (pos l -ℤ pos 1))
 
--- whether layer l, of radius r, has a leaf at (i - r, m - r):
--- "a rim leaf (squared distance r × r + 1, r the layer's radius) is dropped where its hash exceeds 0.6"
+-- whether layer l, of radius r, has a leaf at (i - r, m - r): on the rim, at r * r + 1, only where its hash is at most 0.6
 unfoldable pub hasLeaf : ℤ → ℤ → ℕ → ℕ → ℕ → ℕ → Bool
 hasLeaf wx wz r l i m =
     cond (ltb (squareGap i r + squareGap m r) (r * r + 1)) true
@@ -47,7 +46,7 @@ layerStep size x z wx wz y r l j c = leafStep size x z wx wz y r l (j / (2 * r +
 unfoldable pub layerOf : ℕ → ℕ → ℕ → ℤ → ℤ → ℕ → ℕ → ℕ → List ℕ → List ℕ
 layerOf size x z wx wz y r l c = steps ((2 * r + 1) * (2 * r + 1)) (layerStep size x z wx wz y r l) c
 
--- a canopy (01's crown): its widest radius, leaf_r, and its height above the top of the trunk, canopy_h
+-- a canopy, the crown of SCOPE 4.13: its widest radius, leaf_r, and its height above the top of the trunk, canopy_h
 pub record Crown : Type 0 where
   pub radius : ℕ
   pub height : ℕ
@@ -74,7 +73,7 @@ layersOf n = n + 1
 unfoldable pub leafRadius : ℕ → ℕ → ℕ → ℕ
 leafRadius r n l = cond (lt (nat l /f nat (n + 1)) (nearest 3 10)) (r - 1) (cond (lt (nearest 85 100) (nat l /f nat (n + 1))) (max (r - 1) 1) r)
 
--- the radii of a crown's layers, from the bottom (01, Marked g)
+-- the radii of a crown's layers, from the bottom (SCOPE 12 g)
 unfoldable pub radii : Crown → List ℕ
 radii k = tab (layersOf (k .height)) (leafRadius (k .radius) (k .height))
 

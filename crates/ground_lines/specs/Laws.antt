@@ -1,4 +1,4 @@
--- Lines are laid one after the other, and then all cells are. Assumes nothing.
+-- Lines are laid one after the other, and then all cells are (SCOPE 4.7 to 4.10). Assumes nothing.
 use mathlib.Core.Path.{_≡_, refl, sym, ap, ap₂, _∙_, subst}
 use mathlib.Core.List.{List}
 use mathlib.Core.Bool.{Bool, true, false, cond}

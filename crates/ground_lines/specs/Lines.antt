@@ -1,4 +1,4 @@
--- The chunk line by line: line z * size + y has the cells at y and z. Assumes nothing.
+-- The chunk line by line: line z * size + y has the cells at y and z (SCOPE 5.1). Assumes nothing.
 use mathlib.Core.Path.{_≡_}
 use mathlib.Core.List.{List}
 use mathlib.Core.Bool.{Bool, true, false, _&&_, cond}

@@ -1,4 +1,4 @@
--- Which cells of a column lie where caves can be. Assumes nothing.
+-- Which cells of a column lie where caves can be (SCOPE 4.8). Assumes nothing.
 use mathlib.Core.Path.{_≡_, refl, sym, subst}
 use mathlib.Core.Bool.{Bool, true, false, _&&_, cond, false≢true}
 use Prim.Native.Nat.{ℕ, zero, suc, _+_, _-_, _≤_, _<_}
@@ -53,7 +53,7 @@ clip-lt : (n size y : ℕ) (b : Bool) → y < size → y < n → y < cond b n si
 clip-lt n size y true p q = q
 clip-lt n size y false p q = p
 
--- "caves only where 0 < wy < height − 1": those cells lie in the range that is worked out
+-- a cell whose level admits a cave lies in the range that is worked out
 pub in-range : (o : ℤ) (h size y : ℕ) → 1 ≤ h → y < size → (ltZ (pos 0) (o +ℤ pos y) && ltZ (o +ℤ pos y) (pos h -ℤ pos 1)) ≡ true
     → (belowLevel size o 1 ≤ y) × (y < belowLevel size o (h - 1))
 unfolding belowLevel

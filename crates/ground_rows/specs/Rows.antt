@@ -1,4 +1,4 @@
--- What a row of columns is laid with. Assumes nothing.
+-- What a row of columns is laid with (SCOPE 4.7 to 4.10). Assumes nothing.
 use mathlib.Core.Path.{_≡_}
 use mathlib.Core.List.{List}
 use mathlib.Core.Bool.{Bool}

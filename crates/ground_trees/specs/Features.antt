@@ -1,4 +1,4 @@
--- Boulders and trees, as steps on the list of cells in the order of `terrain.rs`. Assumes nothing.
+-- Boulders and trees (SCOPE 4.11 to 4.14), as steps on the list of cells in the order of `terrain.rs`. Assumes nothing.
 use Prim.Native.Nat.{ℕ, _-_, _*_, _/_, _%_}
 use mathlib.Core.Bool.{Bool, true, false, not, _&&_, cond}
 use mathlib.Core.List.{List}
@@ -53,7 +53,7 @@ treeGrows b h = cond (eqb b 2) (not (lt (nearest 25 1000) h)) (cond (eqb b 3) (n
 unfoldable pub isGiant : ℕ → Float → Bool
 isGiant b v = eqb b 2 && lt v (nearest 8 100)
 
--- where the column is more than 2 above the sea, its hash low enough and its surface, in this chunk, grass
+-- SCOPE 4.12: where the column is more than 2 above the sea, its hash low enough and its surface, in this chunk, grass
 unfoldable pub placeTree : ℕ → ℤ → ℤ → Top → ℕ → ℕ → ℤ → ℤ → List ℕ → List ℕ
 placeTree size oy sea t x z wx wz c =
     cond (ltZ (pos (t .height) -ℤ sea) (pos 3)) c
@@ -61,7 +61,7 @@ placeTree size oy sea t x z wx wz c =
     (cond (eqb (seeAt size x (localY size oy (pos (t .height - 1))) z c) GRASS)
     (plantOf size oy x z wx wz (t .height) (isGiant (t .biome) (varietyOf wx wz)) (varietyOf wx wz) c) c) c)
 
--- "trees on 2 to size − 3 and only if size > 4"
+-- columns at least 2 away from the chunk's rim; up to size 4 there is none
 unfoldable pub treeColumn : Frame → ℤ → Top → ℕ → ℕ → List ℕ → List ℕ
 treeColumn o sea t x z c = cond (insetIn 2 (o .size) x z) (placeTree (o .size) (o .oy) sea t x z (o .ox +ℤ pos x) (o .oz +ℤ pos z) c) c
 

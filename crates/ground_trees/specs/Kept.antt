@@ -1,4 +1,4 @@
--- What boulders and trees keep of a list of cells: one induction for every such law. Assumes nothing.
+-- What boulders and trees (SCOPE 4.11 to 4.14) keep of a list of cells: one induction for every such law. Assumes nothing.
 use mathlib.Core.Path.{_≡_, refl, sym, _∙_, subst}
 use Prim.Native.Nat.{ℕ, zero, suc, _+_, _-_, _*_, _/_, _%_, _<_}
 use native.Mathlib.Omega.{arith}

@@ -1,4 +1,4 @@
--- How many cells of a chunk of one block are not air. Assumes nothing.
+-- How many cells of a chunk of one block are not air (SCOPE 5.2). Assumes nothing.
 use mathlib.Core.Path.{_≡_}
 use mathlib.Core.List.{[], _∷_}
 use Prim.Native.Nat.{ℕ, zero, suc}

@@ -1,4 +1,4 @@
--- The ground of a chunk that lies wholly below, or wholly above: one block in every cell. Assumes nothing.
+-- The ground of a chunk that lies wholly below (SCOPE 4.9), or wholly above (4.7): one block in every cell. Assumes nothing.
 use mathlib.Core.Path.{_≡_, refl, sym, ap, ap₂, _∙_, subst}
 use Prim.Native.Nat.{ℕ, zero, suc, _+_, _-_, _*_, _/_, _%_, _≤_, _<_}
 use native.Mathlib.Omega.{arith}

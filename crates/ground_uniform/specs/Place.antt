@@ -1,4 +1,4 @@
--- Where a chunk lies wholly below the ground, or wholly above everything. Assumes nothing.
+-- Where a chunk lies wholly below the ground (SCOPE 4.9), or wholly above everything (4.7). Assumes nothing.
 use Prim.Native.Nat.{ℕ}
 use mathlib.Core.Bool.{Bool, _&&_}
 use mathlib.Core.List.{List}

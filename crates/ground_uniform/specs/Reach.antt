@@ -1,4 +1,4 @@
--- A boulder has at most 5 blocks: its hash is at most 0.006, and a product grows with its factor, rounded too. Assumes nothing.
+-- A boulder (SCOPE 4.11) has at most 5 blocks: its hash is at most 0.006, and a product grows with its factor, rounded too. Assumes nothing.
 use mathlib.Core.Path.{_≡_, refl, sym, ap, _∙_, subst}
 use Prim.Native.Nat.{ℕ, _*_, _/_, _≤_}
 use native.Mathlib.Nat.{mul-pos}

@@ -1,4 +1,4 @@
--- Boulders and trees whose levels lie outside a chunk change nothing in it. Assumes nothing.
+-- Boulders and trees whose levels lie outside a chunk change nothing in it (SCOPE 4.14). Assumes nothing.
 use mathlib.Core.Path.{_≡_, refl, _∙_}
 use Prim.Native.Nat.{ℕ, zero, suc, _+_, _-_, _*_, _/_, _%_, _≤_, _<_}
 use native.Mathlib.Omega.{arith}
