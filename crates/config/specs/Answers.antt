@@ -1,11 +1,10 @@
--- What a call answers, and what it leaves of the cells. Assumes nothing.
+-- What a call answers (SCOPE 1.4, 10.1), and what it leaves of the cells. Assumes nothing.
 use mathlib.Core.Path.{_≡_, refl}
 use Prim.Native.Nat.{ℕ, zero, suc}
 use native.Mathlib.Omega.{arith}
 use mathlib.Core.List.{List}
 
--- 01, Refused because of the input: "Each returns its number and a line number (0 except for 11 and 12 ..)".
--- What is accepted has its values. An accepted and a refused answer are never one value, whatever the number.
+-- the values of what is accepted, or a refusal's number and line; the two are never one value, whatever the number
 pub data Answer : Type 0 where
   accepted : List ℕ → Answer
   refused : (number line : ℕ) → Answer

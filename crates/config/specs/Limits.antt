@@ -1,4 +1,4 @@
--- The limits of settings and place, over whole numbers, and what holds within them. Assumes nothing.
+-- The limits of settings and place (SCOPE 2), over whole numbers, and what holds within them. Assumes nothing.
 use mathlib.Core.Path.{_≡_, refl, sym, ap, _∙_, subst}
 use Prim.Native.Nat.{ℕ, suc, _+_, _-_, _≤_, _<_}
 use native.Mathlib.Omega.{arith}
@@ -16,7 +16,7 @@ use Rattle.config.specs.declared.ChunkPos.{ChunkPos}
 abbrev pub within : ℤ → ℤ → ℤ → Bool
 within lo z hi = leZ lo z && leZ z hi
 
--- 01, Settings: "Seed 0 to 65,535; sea level −4,096 to 4,096; world height 2 to 4,096; size 1 to 64."
+-- SCOPE 2.1
 unfoldable pub seedOk : ℤ → Bool
 seedOk z = within (pos 0) z (pos 65535)
 
@@ -29,19 +29,19 @@ heightOk z = within (pos 2) z (pos 4096)
 unfoldable pub sizeOk : ℤ → Bool
 sizeOk z = within (pos 1) z (pos 64)
 
--- "each times size must be at least −1,000,000, and that plus size − 1 at most 1,000,000"
+-- SCOPE 2.2, along one axis
 unfoldable pub placeOk : ℤ → ℤ → Bool
 placeOk size c = leZ (negsuc 999999) (c *ℤ size) && leZ (c *ℤ size +ℤ (size -ℤ pos 1)) (pos 1000000)
 
 unfoldable pub placesOk : Header → Bool
 placesOk h = placeOk (h .«chunk_size») (h .cx) && placeOk (h .«chunk_size») (h .cy) && placeOk (h .«chunk_size») (h .cz)
 
--- "1 size. 2 seed. 3 sea level. 4 world height. 5 place.", the first that is off its limits, or 0
+-- SCOPE 2.3: the number of the first limit that is broken, or 0
 unfoldable pub limitRefusal : Header → ℕ
 limitRefusal h =
     refusal (must (sizeOk (h .«chunk_size»)) 1 ∷ must (seedOk (h .seed)) 2 ∷ must (seaOk (h .«sea_level»)) 3 ∷ must (heightOk (h .«world_height_blocks»)) 4 ∷ must (placesOk h) 5 ∷ [])
 
--- the order of the journal's first line: "G seed sea height size cx cy cz"
+-- the header in the order of the journal's first line (SCOPE 6.3)
 abbrev pub header : ℤ → ℤ → ℤ → ℤ → ℤ → ℤ → ℤ → Header
 header seed sea height size cx cy cz = record { seed = seed; «sea_level» = sea; «world_height_blocks» = height; «chunk_size» = size; cx = cx; cy = cy; cz = cz }
 

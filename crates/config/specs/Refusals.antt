@@ -1,4 +1,4 @@
--- Refusals in their order: tests, each with the number that answers where it does not hold. Assumes nothing.
+-- Refusals in their order (SCOPE 10.1): tests, each with the number that answers where it does not hold. Assumes nothing.
 use mathlib.Core.Path.{_≡_, refl, sym, _∙_, subst}
 use Prim.Native.Nat.{ℕ, suc}
 use native.Mathlib.Omega.{arith}
@@ -23,7 +23,7 @@ abbrev pub unless : Bool → ℕ → ℕ → ℕ
 unless true k rest = rest
 unless false k rest = k
 
--- 01, Refused because of the input: "The cause that comes first in the order .. answers." 0 is no refusal.
+-- the number of the first test that does not hold; 0 is no refusal
 unfoldable pub refusal : List Test → ℕ
 refusal [] = 0
 refusal (t ∷ ts) = unless (t .holds) (t .number) (refusal ts)

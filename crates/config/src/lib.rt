@@ -5,7 +5,7 @@ ghost use mathlib.Core.Bool.{true};
 ghost use Prim.Native.Nat.{_<_};
 ghost use lib.Signed.{mag};
 
-// As in the Rust; the limits are narrower (01, Settings).
+// As in the Rust; the limits are narrower (SCOPE 2.1).
 #[repr(C)]
 pub struct TerrainConfig {
     pub seed: u32,

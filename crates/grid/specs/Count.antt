@@ -1,4 +1,4 @@
--- The non-air count of a chunk's cells. Assumes nothing.
+-- The non-air count of a chunk's cells (SCOPE 5.2). Assumes nothing.
 use mathlib.Core.Path.{_≡_, refl, ap, _∙_, sym}
 use Prim.Native.Nat.{ℕ, suc, _+_, _≤_}
 use native.Mathlib.Omega.{arith}
@@ -12,7 +12,7 @@ use lib.Dec.{eqb}
 abbrev pub nonAir : ℕ → ℕ
 nonAir v = cond (eqb v 0) 0 1
 
--- 01, Cells and edits: "The non-air count is the number of nonzero cells."
+-- summed over the cells
 unfoldable pub nonAirCount : List ℕ → ℕ
 nonAirCount [] = 0
 nonAirCount (v ∷ c) = nonAir v + nonAirCount c

@@ -1,4 +1,4 @@
--- The cells of a chunk as a list. Assumes nothing.
+-- The cells of a chunk as a list (SCOPE 5.1). Assumes nothing.
 use mathlib.Core.Path.{_≡_}
 use Prim.Native.Nat.{ℕ, zero, suc, _+_, _*_, _/_, _%_, _≤_}
 use mathlib.Core.Bool.{Bool, false, cond}
@@ -16,7 +16,7 @@ cellIndex size x y z = x + y * size + z * size * size
 unfoldable pub inside : ℕ → ℕ → ℕ → ℕ → Bool
 inside size x y z = cond (ltb x size) (cond (ltb y size) (ltb z size) false) false
 
--- v at a cell; what falls outside is lost
+-- v at a cell, and no change outside
 unfoldable pub putAt : ℕ → ℕ → ℕ → ℕ → ℕ → List ℕ → List ℕ
 putAt size x y z v c = cond (inside size x y z) (set c (cellIndex size x y z) v) c
 

@@ -1,4 +1,4 @@
--- The laws of a chunk's indices, and of lists that are filled from the front. Assumes nothing.
+-- The laws of a chunk's indices (SCOPE 5.1), and of lists that are filled from the front. Assumes nothing.
 use mathlib.Core.Path.{_≡_, refl, sym, ap, _∙_, subst}
 use Prim.Native.Nat.{ℕ, zero, suc, _+_, _*_, _/_, _%_, _≤_, _<_}
 use native.Mathlib.Omega.{arith}

@@ -12,7 +12,7 @@ pub fn cell_index(size: usize, x: usize, y: usize, z: usize) -> usize
     x + y * size + z * size * size
 }
 
-// Puts v at a cell; what falls outside the chunk is lost.
+// Puts v at a cell of the chunk; outside it nothing changes.
 pub fn put(cells: &mut [u16], size: usize, x: usize, y: usize, z: usize, v: u16)
     requires { ⌜ Cube size (now cells) ⌝ }
     ensures { λ _. ⌜ now (cells .exit) ≡ putAt size x y z v (now (cells .entry)) ⌝ }

@@ -1,4 +1,4 @@
--- What an edit does to a chunk's cells. Assumes nothing.
+-- What an edit does to a chunk's cells (SCOPE 5.4 to 5.6). Assumes nothing.
 use Prim.Native.Nat.{ℕ, _%_}
 use mathlib.Core.Bool.{Bool, _&&_}
 use mathlib.Core.List.{List, [], _∷_}
@@ -6,11 +6,11 @@ use lib.Dec.{ltb}
 use Rattle.grid.specs.Cube.{putAt, steps}
 pub use Rattle.text.specs.Pick.{pick}
 
--- 01, Cells and edits: one cell. What falls outside is lost; the calls refuse it before.
+-- SCOPE 5.4: one cell; outside nothing changes, and the calls refuse it before
 abbrev pub setCells : ℕ → ℕ → ℕ → ℕ → ℕ → List ℕ → List ℕ
 setCells size x y z id c = putAt size x y z id c
 
--- "A column clips its height to size; outside x or z it does nothing."
+-- SCOPE 5.5: how many cells are filled, at most the size, and 0 where x or z lies outside
 unfoldable pub columnHeight : ℕ → ℕ → ℕ → ℕ → ℕ
 columnHeight size x z height = pick (ltb x size) (pick (ltb z size) (pick (ltb height size) height size) 0) 0
 
@@ -32,7 +32,7 @@ pub record Group : Type 0 where
 abbrev pub group : ℕ → ℕ → ℕ → ℕ → Group
 group x y z id = record { x = x; y = y; z = z; id = id }
 
--- 01, Cells and edits: "A batch is groups of four u32 (x, y, z, id), id modulo 65,536; one to three left over are ignored"
+-- SCOPE 5.6: the numbers by fours, ids modulo 65,536; a rest of one to three is dropped
 unfoldable pub batchGroups : List ℕ → List Group
 batchGroups [] = []
 batchGroups (x ∷ []) = []
@@ -43,7 +43,7 @@ batchGroups (x ∷ y ∷ z ∷ id ∷ ns) = group x y z (id % 65536) ∷ batchGr
 abbrev pub groupInside : ℕ → Group → Bool
 groupInside size g = ltb (g .x) size && (ltb (g .y) size && ltb (g .z) size)
 
--- "groups outside are skipped"
+-- those in the chunk
 unfoldable pub insideGroups : ℕ → List Group → List Group
 insideGroups size [] = []
 insideGroups size (g ∷ gs) = pick (groupInside size g) (g ∷ insideGroups size gs) (insideGroups size gs)
