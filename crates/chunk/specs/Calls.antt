@@ -1,4 +1,4 @@
--- What an edit of bare cells does: its answer and the cells. Assumes nothing.
+-- What an edit of bare cells does (SCOPE 5.10): its answer and the cells. Assumes nothing.
 use Prim.Native.Nat.{ℕ, _+_, _-_}
 use mathlib.Core.List.{List, [], _∷_, _++_}
 use Rattle.grid.specs.Count.{nonAirCount}
@@ -6,7 +6,6 @@ use Rattle.config.specs.Refusals.{passed, refusal}
 use Rattle.config.specs.Answers.{Outcome, done}
 use Rattle.chunk.specs.Tests.{countRefusal}
 
--- 01, Refused because of the state: "an edit on bare cells, with size and count but no record, tests 1, 6, 7 and then the count".
 -- `input` is what the tests before the count answer, `c` the cells before the edit and `d` after it;
 -- the count moves by as much as the number of nonzero cells does.
 unfoldable pub edited : ℕ → ℕ → ℕ → List ℕ → List ℕ → List ℕ → Outcome

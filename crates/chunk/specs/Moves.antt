@@ -1,4 +1,4 @@
--- How an edit moves the non-air count. Assumes nothing.
+-- How an edit moves the non-air count (SCOPE 5.10). Assumes nothing.
 use mathlib.Core.Path.{_≡_, refl, sym, ap, ap₂, _∙_}
 use Prim.Native.Nat.{ℕ, zero, suc, _+_, _-_, _*_, _/_, _%_, _≤_, _<_}
 use native.Mathlib.Omega.{arith}

@@ -1,4 +1,4 @@
--- What each answer of a call on bare cells says. Assumes nothing.
+-- What each answer of a call on bare cells (SCOPE 5) says. Assumes nothing.
 use mathlib.Core.Path.{_≡_, refl, sym, ap}
 use Prim.Native.Nat.{ℕ}
 use native.Mathlib.Omega.{arith}
@@ -31,7 +31,7 @@ abbrev pub saysFlag : Flag → Answer
 saysFlag (flag.Answer b) = accepted (yes b ∷ [])
 saysFlag (flag.Refused n) = refusedWith n
 
--- ---- 01, Four questions: "Can two outcomes satisfy it? No": answers that say the same are the same
+-- ---- SCOPE 1.4: answers that say the same are the same
 
 pub same-counted : (a b : Counted) → saysCounted a ≡ saysCounted b → a ≡ b
 same-counted (counted.Count m) (counted.Count n) e = let q : m ≡ n = cc in ap counted.Count q

@@ -1,4 +1,4 @@
--- The refusals of calls on bare cells, and what holds where none answers. Assumes nothing.
+-- The refusals of calls on bare cells (SCOPE 10.2, 10.3), and what holds where none answers. Assumes nothing.
 use mathlib.Core.Path.{_≡_, refl, sym, _∙_, subst}
 use Prim.Native.Nat.{ℕ, _+_, _-_, _*_, _≤_, _<_}
 use native.Mathlib.Omega.{arith}
@@ -14,15 +14,15 @@ use Rattle.grid.specs.Grid.{index-lt, cube-most}
 use Rattle.config.specs.Refusals.{must, passed, refusal, refusal-zero, passed-zero, passed-on, passed-stop, refusal-none, refusal-pass, refusal-stop}
 use Rattle.config.specs.Limits.{sizeOk, size-between}
 
--- 01, Refused because of the input: "1 size." "6 cell slice .. not size³ long." The limits of the size are those of the settings.
+-- 1, by the limit that the settings' size has too, then 6
 unfoldable pub chunkRefusal : ℕ → ℕ → ℕ
 chunkRefusal size n = refusal (must (sizeOk (pos size)) 1 ∷ must (eqb n (size * size * size)) 6 ∷ [])
 
--- "7 cell outside, in set or get."
+-- these, then 7 for a cell outside
 unfoldable pub cellRefusal : ℕ → ℕ → ℕ → ℕ → ℕ → ℕ
 cellRefusal size n x y z = refusal (passed (chunkRefusal size n) ∷ must (inside size x y z) 7 ∷ [])
 
--- 01, Refused because of the state: "a count above size³, or one that the edit as a whole would move outside 0 to size³"
+-- SCOPE 5.10: the count fits the chunk, and still does once it has gone from before to after
 unfoldable pub countOk : ℕ → ℕ → ℕ → ℕ → Bool
 countOk size count before after =
     leb count (size * size * size)

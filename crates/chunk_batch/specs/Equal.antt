@@ -1,4 +1,4 @@
--- 01, Slips: "Counting batch groups of equal id as unwritten." Assumes nothing.
+-- A group that repeats its cell's id is written (SCOPE 5.6, 13). Assumes nothing.
 use mathlib.Core.Path.{_≡_, refl, sym, ap, _∙_}
 use mathlib.Core.List.{List, [], _∷_}
 use Prim.Native.Nat.{ℕ, _+_, _-_, _*_, _%_, _≤_, _<_}

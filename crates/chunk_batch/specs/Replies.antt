@@ -1,4 +1,4 @@
--- What the answer of a batch says. Assumes nothing.
+-- What the answer of a batch says (SCOPE 5.6). Assumes nothing.
 use mathlib.Core.Path.{_≡_, sym, ap, ap₂}
 use mathlib.Core.List.{[], _∷_}
 use Rattle.config.specs.Answers.{Answer, accepted, refusedWith, never-both}

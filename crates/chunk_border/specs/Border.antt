@@ -1,4 +1,4 @@
--- What `extract_border` does. Assumes nothing.
+-- What `extract_border` does (SCOPE 5.8). Assumes nothing.
 use mathlib.Core.Path.{_≡_, refl, sym, ap}
 use Prim.Native.Nat.{ℕ, zero, suc, _-_, _*_, _/_, _%_, _<_}
 use native.Mathlib.Omega.{arith}
@@ -22,8 +22,7 @@ abbrev pub saysExtracted : Extracted → Answer
 saysExtracted extracted.Done = accepted []
 saysExtracted (extracted.Refused n) = refusedWith n
 
--- 01, Beside the chain: "`extract_border` for six faces". The k-th block of a side is the cell at
--- X sides: z = k % size, y = k / size; Y sides: x = k % size, z = k / size; Z sides: x = k % size, y = k / size.
+-- where the k-th block of a side stands among the cells
 unfoldable pub borderSource : Face → ℕ → ℕ → ℕ
 borderSource PosX size k = cellIndex size (size - 1) (k / size) (k % size)
 borderSource NegX size k = cellIndex size 0 (k / size) (k % size)
@@ -35,7 +34,7 @@ borderSource NegZ size k = cellIndex size (k % size) (k / size) 0
 unfoldable pub borderOf : Face → ℕ → List ℕ → List ℕ
 borderOf face size c = tab (size * size) (λ (k : ℕ). getD c (borderSource face size k) 0)
 
--- "into a lent slice of size² (else 6)", "1 and 6 first"
+-- 1 and 6, then 6 for a border of other than size² places
 unfoldable pub borderRefusal : ℕ → ℕ → ℕ → ℕ
 borderRefusal size n m = refusal (passed (chunkRefusal size n) ∷ must (eqb m (size * size)) 6 ∷ [])
 

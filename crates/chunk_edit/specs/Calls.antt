@@ -1,4 +1,4 @@
--- What each call that edits bare cells does: its answer and the cells. The contracts cite these definitions. Assumes nothing.
+-- What each call that edits bare cells does (SCOPE 5.4, 5.5, 5.7): its answer and the cells. The contracts cite these definitions. Assumes nothing.
 use mathlib.Core.Path.{_≡_}
 use Prim.Native.Nat.{ℕ, _*_}
 use mathlib.Core.List.{List, [], _∷_}
@@ -12,7 +12,7 @@ use Rattle.grid_edits.specs.Edits.{setCells, fillCells}
 use Rattle.chunk.specs.Tests.{Chunk, chunkRefusal, cellRefusal, chunk-passed}
 use Rattle.chunk.specs.Calls.{edited}
 
--- "6 cell slice, or the one that replaces it, not size³ long."
+-- 6 for the slice that replaces the cells too
 unfoldable pub replaceRefusal : ℕ → ℕ → ℕ → ℕ
 replaceRefusal size n m = refusal (passed (chunkRefusal size n) ∷ must (eqb m (size * size * size)) 6 ∷ [])
 
@@ -20,7 +20,7 @@ replaceRefusal size n m = refusal (passed (chunkRefusal size n) ∷ must (eqb m 
 unfoldable pub replaceDoes : ℕ → List ℕ → List ℕ → Outcome
 replaceDoes size c new = done (replaceRefusal size (length c) (length new)) (nonAirCount new ∷ []) c new
 
--- 01, Cells and edits
+-- SCOPE 5.4 and 5.5, with the count of 5.10
 unfoldable pub setDoes : ℕ → ℕ → List ℕ → ℕ → ℕ → ℕ → ℕ → Outcome
 setDoes size count c x y z id = edited (cellRefusal size (length c) x y z) size count [] c (setCells size x y z id c)
 

@@ -1,4 +1,4 @@
--- The cells of a chunk with the first groups of a batch laid on, and what a cell holds then. Assumes nothing.
+-- The cells of a chunk with the first groups of a batch laid on (SCOPE 5.6), and what a cell holds then. Assumes nothing.
 use mathlib.Core.Path.{_≡_, refl, sym, ap, _∙_}
 use mathlib.Core.Bool.{true, false, _&&_, false≢true}
 use mathlib.Core.List.{List, [], _∷_}
@@ -50,7 +50,7 @@ rest size ns (suc k) c h =
     ∙ sym (ap (λ (gs : List Group). batchCells size gs d) (groups-step ns (4 * k) (omega arith)))
     ∙ rest size ns k c (omega arith)
 
--- "groups outside are skipped": they change nothing
+-- groups outside change nothing
 outside-false : (size : ℕ) (g : Group) → groupInside size g ≡ false → inside size (g .x) (g .y) (g .z) ≡ false
 outside-false size g e =
     by-bool (ltb (g .x) size)

@@ -1,4 +1,4 @@
--- By how much an edit moves the non-air count. Assumes nothing.
+-- By how much an edit moves the non-air count (SCOPE 5.10). Assumes nothing.
 use mathlib.Core.Path.{_≡_, sym, ap, _∙_}
 use mathlib.Core.Bool.{true, false}
 use mathlib.Core.List.{List}

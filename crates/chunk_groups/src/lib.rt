@@ -126,7 +126,7 @@ pub fn batch_change(cells: &[u16], size: usize, edits: &[u32]) -> Change
     Change { before, after }
 }
 
-// Lays the groups on in their order; what lies outside is lost.
+// Lays the groups on in their order; those outside change nothing.
 pub fn lay_groups(cells: &mut [u16], size: usize, edits: &[u32])
     requires { ⌜ Cube size (now cells) ⌝ }
     ensures { λ _. ⌜ now (cells .exit) ≡ batchCells size (insideGroups size (batchGroups (now (edits .entry)))) (now (cells .entry)) ⌝ }

@@ -1,4 +1,4 @@
--- What each call that looks at bare cells answers. The contracts cite these definitions. Assumes nothing.
+-- What each call that looks at bare cells answers (SCOPE 5.3). The contracts cite these definitions. Assumes nothing.
 use Prim.Native.Nat.{ℕ, _*_}
 use mathlib.Core.List.{List, [], _∷_}
 use lib.Dec.{eqb}
@@ -9,15 +9,15 @@ use Rattle.config.specs.Answers.{Answer, accepted, refusedWith, unlessRefused}
 use Rattle.chunk.specs.Replies.{yes}
 use Rattle.chunk.specs.Tests.{chunkRefusal, cellRefusal}
 
--- 01, Cells and edits: the id of a cell; outside is refused
+-- the id of a cell
 unfoldable pub getDoes : ℕ → List ℕ → ℕ → ℕ → ℕ → Answer
 getDoes size c x y z = unlessRefused (cellRefusal size (length c) x y z) (accepted (getD c (cellIndex size x y z) 0 ∷ [])) refusedWith
 
--- 01, Beside the chain: "`is_air` (outside the chunk: 7)"
+-- whether it is air
 unfoldable pub isAirDoes : ℕ → List ℕ → ℕ → ℕ → ℕ → Answer
 isAirDoes size c x y z = unlessRefused (cellRefusal size (length c) x y z) (accepted (yes (eqb (getD c (cellIndex size x y z) 0) 0) ∷ [])) refusedWith
 
--- "`is_empty`, `is_solid`: these .. work on size and cells, 1 and 6 first"
+-- whether all are air, and whether none is
 unfoldable pub isEmptyDoes : ℕ → List ℕ → Answer
 isEmptyDoes size c = unlessRefused (chunkRefusal size (length c)) (accepted (yes (eqb (nonAirCount c) 0) ∷ [])) refusedWith
 

@@ -1,5 +1,5 @@
 // The cells of a chunk, borrowed: reading a cell and asking about all of them. Arguments that a call does
-// not take are refused with 01's number.
+// not take are refused with the cause's number (SCOPE 10.2).
 ghost use mathlib.Core.Path.{_≡_};
 ghost use Rattle.chunk.specs.Replies.{saysId, saysFlag};
 ghost use Rattle.chunk_look.specs.Calls.{getDoes, isAirDoes, isEmptyDoes, isSolidDoes};

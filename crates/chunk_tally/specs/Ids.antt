@@ -1,4 +1,4 @@
--- The ids that cells hold, with their numbers of cells, in ascending order. Assumes nothing.
+-- The ids that cells hold, with their numbers of cells, in ascending order (SCOPE 5.9). Assumes nothing.
 use mathlib.Core.Path.{_≡_, refl, sym, ap, _∙_}
 use Prim.Native.Nat.{ℕ, zero, suc, _+_, _-_, _≤_, _<_}
 use native.Mathlib.Omega.{arith}
@@ -31,7 +31,7 @@ unfoldable pub span : ℕ → ℕ → (ℕ → ℕ) → (ℕ → ℕ) → List �
 span b zero f x = []
 span b (suc m) f x = span b m f x ++ listIf (b + m) (f (b + m)) (x (b + m))
 
--- 01, Beside the chain: "each nonzero id present with its number of cells, once, and how many ids"
+-- the ids, and the number of cells of each
 unfoldable pub presentIds : List ℕ → List ℕ
 presentIds c = span 0 65536 (idCount c) (λ (v : ℕ). v)
 

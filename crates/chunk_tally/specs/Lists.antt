@@ -1,4 +1,4 @@
--- The ascending lists of ids and counts keep the tally's promise. Assumes nothing.
+-- The ascending lists of ids and counts keep the tally's promise (SCOPE 5.9). Assumes nothing.
 use mathlib.Core.Path.{_≡_, refl, sym, ap, _∙_, subst}
 use Prim.Native.Nat.{ℕ, zero, suc, _+_, _≤_, _<_}
 use native.Mathlib.Omega.{arith}

@@ -1,4 +1,4 @@
--- The laws of ids listed in ascending order, and of lists that are written from the front. Assumes nothing.
+-- The laws of ids listed in ascending order, and of lists that are written from the front (SCOPE 5.9). Assumes nothing.
 use mathlib.Core.Path.{_≡_, refl, sym, ap, ap₂, _∙_}
 use Prim.Native.Nat.{ℕ, zero, suc, _+_, _-_, _*_, _≤_, _<_}
 use native.Mathlib.Omega.{arith}

@@ -1,4 +1,4 @@
--- What the tally promises. Assumes nothing.
+-- What the tally promises (SCOPE 5.9). Assumes nothing.
 use mathlib.Core.Path.{_≡_, sym, ap}
 use Prim.Native.Nat.{ℕ, _<_}
 use mathlib.Core.Bool.{_&&_}
@@ -16,7 +16,7 @@ abbrev pub saysListed : Listed → Answer
 saysListed (listed.Ids n) = accepted (n ∷ [])
 saysListed (listed.Refused n) = refusedWith n
 
--- 01, Beside the chain: "1 and 6 first"; "13 tally lists shorter than the ids present."
+-- 1 and 6, then 13 where one of the lists is too short
 unfoldable pub tallyRefusal : ℕ → List ℕ → ℕ → ℕ → ℕ
 tallyRefusal size c n m =
     refusal (passed (chunkRefusal size (length c)) ∷ must (leb (length (presentIds c)) n && leb (length (presentIds c)) m) 13 ∷ [])
@@ -27,8 +27,7 @@ pub record Place (ids : List ℕ) (n v : ℕ) : Type 0 where
   pub within : at < n
   pub holds : getD ids at 0 ≡ v
 
--- "each nonzero id present with its number of cells, once": what holds of the first n places of the lists.
--- "the order is free": nothing here says in which order the ids stand.
+-- what holds of the first n places of the lists; nothing here says in which order the ids stand
 pub record Listing (c ids counts : List ℕ) (n : ℕ) : Type 0 where
   pub nonzero : (i : ℕ) → i < n → 0 < getD ids i 0
   pub present : (i : ℕ) → i < n → 0 < idCount c (getD ids i 0)
@@ -36,7 +35,7 @@ pub record Listing (c ids counts : List ℕ) (n : ℕ) : Type 0 where
   pub once : (i j : ℕ) → i < n → j < n → getD ids i 0 ≡ getD ids j 0 → i ≡ j
   pub every : (v : ℕ) → 0 < v → v < 65536 → 0 < idCount c v → Place ids n v
 
--- a list whose first n places are written: "list places past them unchanged"
+-- of a list only the first n places are written
 pub record Past (before after : List ℕ) (n : ℕ) : Type 0 where
   pub long : length after ≡ length before
   pub past : drop n after ≡ drop n before

@@ -1,4 +1,4 @@
--- A batch tried on a copy of the cells, a part of them at a time. Assumes nothing.
+-- A batch tried on a copy of the cells, a part of them at a time (SCOPE 5.6, 5.10). Assumes nothing.
 use mathlib.Core.Path.{_≡_, refl, sym, ap, _∙_}
 use mathlib.Core.Bool.{Bool, true, false}
 use mathlib.Core.List.{List, [], _∷_, _++_, append-assoc, append-nil}

@@ -1,4 +1,4 @@
--- `chunk_groups::batch_change` meets its contract. The loop's invariant: the change from the cells as they came to those with k groups laid on. Assumes nothing.
+-- `chunk_groups::batch_change` meets its contract. The loop's invariant: the change from the cells as lent to those with k groups laid on. Assumes nothing.
 use Prim.Native.Nat.{_-_, _≤_}
 use native.Mathlib.Omega.{arith}
 use Rattle.chunk_groups.specs.Laid.{laid}
