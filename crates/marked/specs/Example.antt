@@ -1,4 +1,4 @@
--- What an example is: what a definition gives at some arguments, and the value that 01 names. Assumes nothing.
+-- What an example of SCOPE 12 is: what a definition gives at some arguments, and the value that is expected. Assumes nothing.
 use mathlib.Core.Path.{_≡_}
 use mathlib.Core.List.{List, [], _∷_, _++_}
 use Prim.Native.Nat.{ℕ, _≤_}
@@ -18,7 +18,7 @@ pub data Example : Type 0 where
   everywhere : ℤ → (TerrainConfig → ℤ → ℤ → ℕ) → ℕ → Example
   printed : (List ℕ → List ℕ → List ℕ) → List ℕ → Example
 
--- an example holds where the definition gives what 01 says
+-- an example holds where the definition gives the value
 abbrev pub holds : Example → Type 0
 holds (float a b) = a ≡ b
 holds (integer a b) = a ≡ b

@@ -1,4 +1,4 @@
--- 01, Marked d to j: what the ground's definitions give at the marked arguments. Assumes nothing.
+-- SCOPE 12 d to j: what the ground's definitions give at the marked arguments. Assumes nothing.
 use mathlib.Core.Path.{_≡_, refl, ap}
 use mathlib.Core.Bool.{true, false}
 use mathlib.Core.List.{List, [], _∷_}
@@ -32,11 +32,11 @@ topAt b wy height = selectBlock b (pos wy) (pos height) (pos 24)
 abbrev limitsAt : ℤ → ℕ → ℕ
 limitsAt c height = limitRefusal (header (pos 0) (pos 24) (pos height) (pos 64) c (pos 0) (pos 0))
 
--- d. "Desert depth 4, 5, 8, 9: sand, gravel, gravel, stone."
+-- d: the last of the sand, the first and the last of the gravel, the first of the stone
 abbrev pub rows-d : List Example
 rows-d = number (desertAt 4) SAND ∷ number (desertAt 5) GRAVEL ∷ number (desertAt 8) GRAVEL ∷ number (desertAt 9) STONE ∷ []
 
--- e. "Mountain top at height 40, 41, 55, 71: stone, gravel, gravel, snow."
+-- e: the last of the stone, the first and the last of the gravel, the first that is always snow
 abbrev pub rows-e : List Example
 rows-e =
     number (topAt Mountain 39 40) STONE
@@ -45,29 +45,29 @@ rows-e =
     ∷ number (topAt Mountain 70 71) SNOW
     ∷ []
 
--- f. "Plains top, sea 24: height 26 sand, 27 grass."
+-- f: the last of the sand, the first of the grass
 abbrev pub rows-f : List Example
 rows-f = number (topAt Plains 25 26) SAND ∷ number (topAt Plains 26 27) GRASS ∷ []
 
--- g. "Leaf radii from the bottom: normal crown 1, 1, 2, 2; giant 3, 3, 4, 4, 4."
+-- g: both crowns
 abbrev pub rows-g : List Example
 rows-g =
     numbers (radii (crownOf false)) (1 ∷ 1 ∷ 2 ∷ 2 ∷ [])
     ∷ numbers (radii (crownOf true)) (3 ∷ 3 ∷ 4 ∷ 4 ∷ 4 ∷ [])
     ∷ []
 
--- h. "Boulder hash 0: 2 blocks; the f32 nearest 0.006: 5.": as many as are laid
+-- h: as many blocks as are laid, at the least hash and at the limit
 abbrev pub rows-h : List Example
 rows-h = number (boulderBlocks (nat 0)) 2 ∷ number (boulderBlocks (nearest 6 1000)) 5 ∷ []
 
--- i. "World height 2: height 1; 1 is refused.": every column of the world that settings with this world height give
+-- i: every column of the world that settings with this world height give
 abbrev lowWorld : Example
 lowWorld = everywhere (pos 2) (λ s wx wz. heightAt (worldOf s) wx wz) 1
 
 abbrev pub rows-i : List Example
 rows-i = lowWorld ∷ number (limitsAt (pos 0) 2) 0 ∷ number (limitsAt (pos 0) 1) 4 ∷ []
 
--- j. "Size 64: place 15,624 and −15,625 pass; 15,625 and −15,626 don't."
+-- j: the last place and one more, either way
 abbrev pub rows-j : List Example
 rows-j =
     number (limitsAt (pos 15624) 256) 0

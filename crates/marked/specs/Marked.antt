@@ -1,5 +1,5 @@
--- 01, Marked: the one table of the marked examples, and the one statement that each of them holds. A letter's rows
--- stand together. negsuc n is -(n + 1), and nearest n d the f32 nearest to n / d. Assumes nothing.
+-- SCOPE 12: the one table of the marked examples, and the one statement that each of them holds. A letter's rows stand together.
+-- negsuc n is -(n + 1), and nearest n d the f32 nearest to n / d. Assumes nothing.
 use mathlib.Core.Path.{refl}
 use mathlib.Core.List.{List, [], _∷_, _++_}
 use Prim.Native.Nat.{_-_, _^_}
@@ -12,7 +12,7 @@ use Rattle.marked_listing.specs.Listing.{listingText, listingPrinted, listing-p
 use Rattle.marked.specs.Ground.{rows-d, rows-e, rows-f, rows-g, rows-h, rows-i, rows-j, holds-d, holds-e, holds-f, holds-g, holds-h, holds-i, holds-j}
 use Rattle.marked.specs.Example.{Example, float, integer, printed, AllHold, end, _and_, both}
 
--- a. "31-bit numbers 0; 16,777,217; 2,147,483,583; 2,147,483,584 give 0; 2^-7; 1 - 2^-24; 1."
+-- a: zero, a tie, the last that rounds below 1, the first that rounds to 1
 abbrev pub rows-a : List Example
 rows-a =
     float (unit31 0) (nearest 0 1)
@@ -21,7 +21,7 @@ rows-a =
     ∷ float (unit31 2147483584) (nearest 1 1)
     ∷ []
 
--- b. "-0.5 floors to -1, -2.0 to -2; NaN as i32 is 0."
+-- b: two floors and a conversion
 abbrev pub rows-b : List Example
 rows-b =
     float (floor₃₂ (neg (nearest 1 2))) (neg (nearest 1 1))
@@ -29,18 +29,18 @@ rows-b =
     ∷ integer (toI32 nan) (pos 0)
     ∷ []
 
--- c. "-1 shifted by 13 is -1; 65,536 × 65,536 wraps to 0."
+-- c: a shift and a product
 abbrev pub rows-c : List Example
 rows-c =
     integer (shiftW (negsuc 0) 13) (negsuc 0)
     ∷ integer (mulW (pos 65536) (pos 65536)) (pos 0)
     ∷ []
 
--- k. "The listing above.": what `report` leaves for the program to print
+-- k: what `report` leaves for the program to print
 abbrev pub rows-k : List Example
 rows-k = printed listingPrinted listingText ∷ []
 
--- Not marked, but asked for: the shift is "exact at -1 and both ends", by 13 and by 16
+-- beside SCOPE 12: more shifts (3.3), of -1 and of both ends of an i32, by 13 and by 16
 abbrev pub rows-shift : List Example
 rows-shift =
     integer (shiftW (negsuc 0) 16) (negsuc 0)

@@ -1,5 +1,4 @@
--- 01, Beside the chain: the listing, as what `report` does. Its proof works out the journal, and takes the ground from the
--- range of heights. Assumes nothing.
+-- SCOPE 12 k, as what `report` does. Its proof works out the journal, and takes the ground from the range of heights. Assumes nothing.
 use mathlib.Core.Path.{_≡_, refl, _∙_, ap}
 use mathlib.Core.List.{List, [], _∷_}
 use Prim.Native.Nat.{ℕ, suc, _≤_}
@@ -70,7 +69,7 @@ lent : lentCells listingJournal 48 ≡ 8
 unfolding lentCells
 lent = ap lentBy opens
 
--- the set of air at (0, 0, 0) stands, the column was taken back
+-- the set of air at (0, 0, 0) is active, the column was undone
 abbrev laid : List ℕ
 laid = 0 ∷ 5 ∷ 5 ∷ 5 ∷ 5 ∷ 5 ∷ 5 ∷ 5 ∷ []
 

@@ -1,5 +1,5 @@
--- The ground of a chunk of size 2 that lies above the world's top and below the sea is water. No noise is worked out: the
--- range of heights decides. Assumes nothing.
+-- The ground of a chunk of size 2 that lies above the world's top and below the sea is water (SCOPE 4.7). No noise is worked out:
+-- the range of heights decides. Assumes nothing.
 use mathlib.Core.Path.{_≡_, refl, _∙_}
 use mathlib.Core.Bool.{true}
 use mathlib.Core.List.{List, [], _∷_}
@@ -20,7 +20,7 @@ use Rattle.config.specs.declared.TerrainConfig.{TerrainConfig}
 use Rattle.config.specs.declared.ChunkPos.{ChunkPos}
 use Rattle.ground.specs.Ground.{groundIn, worldOf, frameOf, frameWith, ground}
 
--- 01, Cell: "At wy ≥ height: water (5) below sea level, even above the world's top"
+-- a cell no lower than the greatest height, and below the sea
 pub sky-water : (w : World) (t : Tall w) (wx wz : ℤ) (n : ℕ) → t .top ≤ n → ltZ (pos n) (w .«sea_level») ≡ true → baseCell w wx (pos n) wz ≡ 5
 unfolding baseCell cellUnder cellWith columnCell topAt
 sky-water w t wx wz n h s =
@@ -43,7 +43,7 @@ listingConfig = record { seed = 0; «sea_level» = pos 4096; «world_height_bloc
 abbrev pub listingPlace : ChunkPos
 listingPlace = record { cx = pos 0; cy = pos 128; cz = pos 0 }
 
--- the chunk begins at y = 256, and no column is higher than 255 (01, Column: "Height lies in 1 to world height − 1.")
+-- the chunk begins at y = 256, and no column is higher than 255 (SCOPE 4.6)
 tall : Tall (worldOf listingConfig)
 unfolding worldOf
 tall = record { top = 255; is = refl; least = omega arith; most = omega arith; sea = omega arith }

@@ -1,1 +1,1 @@
-// The listing of 01, Beside the chain, as a theorem (specs/); no functions.
+// SCOPE 12 k, the listing, as a theorem (specs/); no functions.

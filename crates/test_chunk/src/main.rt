@@ -2,7 +2,7 @@
 // call (its kind times 65,536, plus an id), a size, how many cells are lent, a count, and three
 // arguments. The cells hold 0, 1, 2, 3, 4 in turn. The program writes a line for each: the number of
 // the refusal or 0, the answer, and a checksum of what was lent to be written. The expected output
-// was made by the Rust original, or from the scope's text where the original takes no such call.
+// was made by the Rust original, or from SCOPE 5 where the original takes no such call.
 ghost use Prim.Native.Nat.{_≤_};
 ghost use mathlib.Core.Path.{_≡_};
 ghost use lib.ListN.{length};

@@ -1,5 +1,5 @@
 // What programs share that replay a list of answers: reading the numbers of their input, lines of
-// decimal numbers parted by one byte, each taken modulo 2^32 so that no input is refused; cells to
+// decimal numbers separated by one byte, each taken modulo 2^32 so that no input is refused; cells to
 // work on, and their checksum.
 ghost use mathlib.Core.Path.{_≡_};
 ghost use lib.ListN.{length};
