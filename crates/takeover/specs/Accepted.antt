@@ -1,5 +1,5 @@
--- "An accepted journal is what its writer would write": for every accepted journal, the calls that its lines say, given to the reference model with a
--- borrowed length of at least the committed prefix, are refused nowhere and leave exactly those bytes and the active edits. Assumes nothing.
+-- SCOPE 9.6: for every accepted journal, the calls that its lines say, given to the reference model with a lent length of at least the committed
+-- prefix, are refused nowhere and leave exactly those bytes and the active edits. Assumes nothing.
 use mathlib.Core.Path.{_≡_, refl, sym, _∙_, ap, subst}
 use mathlib.Core.Bool.{_&&_}
 use mathlib.Core.List.{List, [], _∷_, _++_, append-assoc, append-nil, map}
@@ -36,6 +36,7 @@ use Rattle.takeover_model.specs.Asks.{set-same, column-same, batch-same}
 
 -- ---- the call that a line says
 
+-- a line that can be written, as the call that writes it
 abbrev pub callOf : (size : ℕ) (d : Line) → LineOk size d → Call
 callOf size (edits (set x y z id)) p = M.set x y z id (p .id)
 callOf size (edits (column x z height id)) p = M.column x z height id (p .id)
@@ -43,10 +44,12 @@ callOf size (edits (batch gs)) p = M.batch (batchArgs gs)
 callOf size undoes p = M.undo
 callOf size wrong p = absurd p
 
+-- .. and several of them
 abbrev pub callsOf : (size : ℕ) (ds : List Line) → AllLineOk size ds → List Call
 callsOf size [] p = []
 callsOf size (d ∷ ds) p = callOf size d (p .0) ∷ callsOf size ds (p .1)
 
+-- none of the answers is a refusal
 abbrev pub AllAccepted : List Reply → Type 0
 AllAccepted [] = Unit
 AllAccepted (r ∷ rs) = (r .refusal ≡ 0) × AllAccepted rs
@@ -125,6 +128,7 @@ line-gives m wrong p b a h = absurd p
 
 -- ---- all lines
 
+-- from the model m on, the calls ks are all accepted, append the text t and leave b active
 pub record Written (m : Model) (ks : List Call) (b : Active) (t : List ℕ) : Type 0 where
   pub accepted : AllAccepted (modelReplies m ks)
   pub bytes : modelRun m ks .bytes ≡ m .bytes ++ t
@@ -170,14 +174,15 @@ lines-written size (d ∷ ds) p m b z e h = line-or size d ds p m b z (after (m 
 
 -- ---- a whole journal: the model of its first line, and the calls of its later lines
 
+-- s is a journal with the first line h and the active edits b; `borrowed` is the length that the model is lent
 pub record Accepted (s : List ℕ) (h : Header) (b : Active) (borrowed : ℕ) : Type 0 where
   pub said : List Line
   pub good : AllLineOk (natAbs (h .«chunk_size»)) said
-  -- refused nowhere
+  -- no call is refused
   pub accepted : AllAccepted (modelReplies (modelFresh (configOf h) (posOf h) borrowed) (callsOf (natAbs (h .«chunk_size»)) said good))
-  -- exactly those bytes
+  -- the bytes are the committed prefix
   pub bytes : modelRun (modelFresh (configOf h) (posOf h) borrowed) (callsOf (natAbs (h .«chunk_size»)) said good) .bytes ≡ take (committed s) s
-  -- and the active edits
+  -- and the active edits are the journal's
   pub active : modelRun (modelFresh (configOf h) (posOf h) borrowed) (callsOf (natAbs (h .«chunk_size»)) said good) .active ≡ b
 
 pub accepted-is-written : (s g : List ℕ) (ls : List (List ℕ)) (h : Header) (b : Active) (borrowed : ℕ)
@@ -205,8 +210,8 @@ accepted-is-written s g ls h b borrowed e f l q c =
 
 -- ---- what reopening accepts
 
--- the settings and the place are the first line's and within the limits, so that a session with them can be begun, and the journal is one that its
--- writer would write
+-- r is a record that reopening gave: its settings and place are the first line's and within the limits, so that a session can begin with them,
+-- and the journal is what that session's calls write (SCOPE 1.2, 9.6)
 pub record AsWritten (s : List ℕ) (r : Session) (borrowed : ℕ) : Type 0 where
   pub first : Header
   pub standing : Active

@@ -1,6 +1,6 @@
--- THE TAKEOVER THEOREM, demand 3: one statement over the whole list of calls as they were made, and every cut. `Contracts` says what a list as it was
--- made is, a first tablet and a second; of the crate recovery `Statement` says what is compared and what a cut is, `Model` has the reference model.
--- `Theorem` proves it. Assumes nothing.
+-- THE TAKEOVER THEOREM, SCOPE 9.5: one statement over the whole list of calls as they were made, and every cut. `Contracts` says what a list as it
+-- was made is, a first tablet and a second. In the crate `takeover_model`, `Statement` says what is compared and what a cut is, and `Model` is the
+-- reference model. `Theorem` proves it. Assumes nothing.
 use mathlib.Core.Path.{_≡_}
 use mathlib.Core.List.{List}
 use Prim.Native.Nat.{ℕ, _+_, _≤_, _<_}
@@ -16,59 +16,64 @@ use Rattle.takeover_model.specs.Model.{Call, Model, modelFresh, modelRun, model
 use Rattle.takeover_model.specs.Statement.{Tablet, usedBytes, Alike, AsModel, Laid, CutAt}
 use Rattle.takeover.specs.Contracts.{Made, after, First, began, Second, resumes}
 
--- the model of the same start: it is given the settings, the place and how long the lent journal is
+-- SCOPE 8.1: the reference model of the same start, with the first tablet's settings, place and length of the lent journal
 abbrev pub model : First → Model
 model f = modelFresh (f .config) (f .place) (length (now (f .journal)))
 
+-- G's line, with its LF
 abbrev pub firstLine : First → List ℕ
 firstLine f = ended (headerText (configHeader (f .config) (f .place)))
 
 module _ {s t : Tablet} {calls : List Call} {rs : List Reply} (made : Made s calls rs t) where
-  -- The last call whose line stands whole among the first q bytes, by its number, 0 where none does: after it the used bytes end within q, and after
-  -- every later one beyond. (A call without a line changes nothing, so it may be the one.)
+  -- The last call whose line is whole among the first q bytes, by its number, 0 where there is none: after it the used bytes end within q, and after
+  -- every later one beyond. (A call without a line changes nothing, so it can be the one.)
   pub record LastWhole (q count : ℕ) : Type 0 where
     pub most : count ≤ length calls
     pub within : after count made .session .used ≤ q
     pub beyond : (n : ℕ) → count < n → n ≤ length calls → q < after n made .session .used
 
+  -- G's line is whole: what the second tablet gets. t is the first after its last call.
   pub record TakenOver (confirmed q : ℕ) (o : Second) : Type 1 where
-    -- reopening is accepted, and tells the whole lines and the trailing bytes, which are all that is held behind the used ones
+    -- reopening accepts, and answers how many lines are whole and how many bytes trail, which is all that is held behind the used bytes
     pub session : Session
     pub lines : ℕ
     pub trailing : ℕ
     pub answer : o .answer ≡ Opened session lines trailing
     pub lines-are : lines ≡ length (J.lines (usedBytes (resumes o session)))
     pub trailing-are : session .used + trailing ≡ o .held
-    -- the second has the record, cells, used journal bytes and active edits that the first had after that call
+    -- the second has the record, cells, used bytes and active edits that the first had after the last call whose line is whole, call `count`
     pub count : ℕ
     pub whole : LastWhole q count
     pub same : Alike (resumes o session) (after count made)
     -- no confirmed line is missing, and each has the bytes that were written
     pub kept : confirmed ≤ session .used
     pub kept-bytes : take confirmed (usedBytes (resumes o session)) ≡ take confirmed (usedBytes t)
-    -- every further list of calls, made on the second and on what the first was after that call, gets the same answers and leaves the same
+    -- and further on: every list of calls, made on the second and on the first as it was after that call, gets the same answers and leaves the same
     pub further : (more : List Call) (rs₁ rs₂ : List Reply) (u v : Tablet)
         → Made (resumes o session) more rs₁ u → Made (after count made) more rs₂ v → (rs₁ ≡ rs₂) × Alike u v
 
--- f is a fresh session, rs are the answers of the calls that were made on it, t is the tablet that they left.
+-- f is a fresh session that was accepted, rs are the answers to the calls that were made on it, t is the tablet that they left.
 module _ (f : First) {calls : List Call} {rs : List Reply} {t : Tablet} (made : Made (began f) calls rs t) where
+  -- one cut: q bytes were kept, at least the confirmed ones, and o is a second tablet that reopens them
   pub record Takeover (confirmed q : ℕ) (o : Second) : Type 1 where
-    -- cut inside the first line: reopening answers 10, and the cells are as they were
+    -- G's line is cut: reopening answers 10, and leaves the cells as they were
     pub no-first-line : q < length (firstLine f) → (o .answer ≡ Refused 10 0) × (now (o .cells′) ≡ now (o .cells))
+    -- G's line is whole
     pub taken-over : length (firstLine f) ≤ q → TakenOver made confirmed q o
 
+  -- what holds of the whole list
   pub record Demand : Type 1 where
-    -- when fresh, after every call and after the last the tablet has the model's cells, count, used journal bytes and active edits
+    -- at first, after every call and after the last: the tablet has the model's cells, count, used bytes and active edits
     pub each : (n : ℕ) → AsModel (modelRun (model f) (take n calls)) (after n made)
     pub last : AsModel (modelRun (model f) calls) t
-    -- its cells are the ground with the active edits laid on in order
+    -- its cells are the ground with its active edits laid on in order
     pub laid : (n : ℕ) → Laid (after n made)
-    -- each answer is the model's: a call is refused exactly where the model refuses it, with the same number
+    -- every answer is the model's: refused exactly where the model refuses, with the same number
     pub answers : rs ≡ modelReplies (model f) calls
-    -- whatever byte the power fails at, whatever is confirmed and whatever the second is lent
+    -- every cut: whatever byte it comes at, whatever is confirmed, whatever the second's buffers had in them
     pub cut : (confirmed q : ℕ) (tail : List ℕ) (o : Second) → CutAt t confirmed q tail (now (o .cells)) (now (o .journal)) (o .held)
         → Takeover confirmed q o
 
--- The theorem: for every fresh session that is accepted and every list of calls as it was made on it.
+-- SCOPE 9.5: so for every fresh session that was accepted, and every list of calls as it was made on it.
 abbrev pub TakeoverTheorem : Type 1
 TakeoverTheorem = (f : First) (calls : List Call) (rs : List Reply) (t : Tablet) (made : Made (began f) calls rs t) → Demand f made

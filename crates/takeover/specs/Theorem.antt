@@ -1,5 +1,5 @@
 -- The takeover theorem, proved: what was made is what the calls' definitions give one after the other, and the theorem over the definitions
--- (recovery's `Takeover`) is carried over. Assumes nothing.
+-- (`Takeover` of the crate `takeover_model`) is carried over. Assumes nothing.
 use mathlib.Core.Path.{_≡_, refl, sym, _∙_, ap, subst}
 use mathlib.Core.List.{List, _∷_}
 use Prim.Native.Nat.{ℕ, zero, suc, _≤_, _<_}
@@ -153,7 +153,7 @@ module _ (f : First) {calls : List Call} {rs : List Reply} {t : Tablet} (made : 
               ));
         }
 
--- Demand 3, undivided.
+-- SCOPE 9.5, in one piece.
 pub takeover : TakeoverTheorem
 takeover f calls rs t made = record {
   each = λ n. at f made (λ (u : Tablet). AsModel (modelRun (model f) (take n calls)) u) n (as-machine f (take n calls));

@@ -1,5 +1,5 @@
--- The theorem speaks of something: every list of calls can be made from every tablet, by the calls' own contracts; a fresh session that is accepted is
--- a first tablet, and every journal can be reopened by a second. Assumes nothing.
+-- The theorem (SCOPE 9.5) speaks of something: every list of calls can be made from every tablet, by the calls' own contracts; a fresh session that
+-- is accepted is a first tablet, and every journal can be reopened by a second. Assumes nothing.
 use mathlib.Core.Path.{_≡_, refl, sym, ap}
 use mathlib.Core.List.{List, [], _∷_}
 use Prim.Native.Nat.{ℕ}
@@ -38,6 +38,7 @@ turn t o = record {
   journal′ = holding (o .journal);
 }
 
+-- answers and a last tablet, with which the list ks was made from t
 pub record Makes (t : Tablet) (ks : List Call) : Type 1 where
   pub replies : List Reply
   pub last : Tablet
@@ -47,6 +48,7 @@ more : {t : Tablet} {k : Call} {ks : List Call} (o : Outcome) (rest : Makes (lea
     → Made t (k ∷ ks) (o .reply ∷ rest .replies) (rest .last) → Makes t (k ∷ ks)
 more o rest m = record { replies = o .reply ∷ rest .replies; last = rest .last; made = m }
 
+-- every list of calls has them
 pub makes : (t : Tablet) (ks : List Call) → Makes t ks
 unfolding does
 makes t [] = record { replies = []; last = t; made = C.none }
@@ -67,6 +69,7 @@ makes t (M.undo ∷ ks) =
     let rest = makes (leaves o) ks in
     more o rest (C.undo two (turn t o) refl (rest .made))
 
+-- a fresh session that is accepted is a first tablet
 abbrev pub first : (config : TerrainConfig) (place : ChunkPos) (c j : List ℕ) (s : Session) → freshDoes config place c j .answer ≡ Started s → First
 first config place c j s e =
     let o = freshDoes config place c j in
@@ -82,6 +85,7 @@ first config place c j s e =
       gives = ap (λ (a : Fresh). begun a (o .cells) (o .journal)) (sym e);
     }
 
+-- every journal has a second tablet that reopens it
 abbrev pub second : (c j : List ℕ) (held : ℕ) → Second
 second c j held = record {
   lifetimes = two;
