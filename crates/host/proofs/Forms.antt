@@ -1,5 +1,5 @@
--- What a caller of each of the four calls over a record lent by reference learns is what `does` says of the tablet: the equation that the takeover
--- theorem takes as a step (takeover's `Made.form`). By computation, so that a change of a contract makes this module fail. Assumes nothing.
+-- What a caller of each of the four calls over a record lent by reference (SCOPE 7.7) learns is what `does` says of the tablet: the equation that the
+-- takeover theorem takes as a step (takeover's `Made.form`). By computation, so that a change of a contract makes this module fail. Assumes nothing.
 use mathlib.Core.Path.{_≡_, refl}
 use mathlib.Core.List.{List}
 use Prim.Native.Nat.{ℕ, _≤_}

@@ -1,5 +1,5 @@
-// The C boundary. Each function passes its arguments on to the library's call and answers in numbers: 01's number of a refusal, 0
-// where the call is accepted, its line, and its values. The session's edits, over a record lent by reference, are in `by_reference`.
+// The C boundary. Each function hands its arguments to the library's call and answers in numbers: a refusal's number (SCOPE 10), 0 where
+// the call is accepted, its line, and its values. The session's edits, over a record lent by reference, are in `by_reference`.
 ghost use mathlib.Core.Path.{_≡_};
 ghost use lib.ListN.{length};
 ghost use Rattle.noise.specs.Hash.{hash2₃₂, hash3₃₂};
@@ -147,7 +147,7 @@ pub extern "C" fn pl_set_blocks(
     host_answers::batch_answer(chunk_batch::set_blocks(cells, size, count, edits))
 }
 
-// A number above 5 names no face: 99, which the scope does not use.
+// SCOPE 10.6: a number above 5 names no face: 99.
 #[no_mangle]
 pub extern "C" fn pl_extract_border(
     cells: &[u16],
@@ -194,7 +194,7 @@ pub extern "C" fn pl_session_reopen(cells: &mut [u16], journal: &[u8], held: usi
     host_starts::reopen_start(session_reopen::reopen(cells, journal, held))
 }
 
-// How many bytes of a journal count: the length of its committed prefix.
+// The length of a journal's committed prefix (SCOPE 9.4).
 #[no_mangle]
 pub extern "C" fn pl_committed_len(journal: &[u8], held: usize) -> usize
     ensures { λ r. ⌜ r ≡ length (committedPart (now (journal .entry)) held) ⌝ }

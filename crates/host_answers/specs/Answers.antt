@@ -1,4 +1,4 @@
--- What a call answers at the C boundary: 01's number, line and value of each answer, with the buffers beside them. Assumes nothing.
+-- What a call answers at the C boundary (SCOPE 10.1, 14.2): number, line and value of each answer, with the buffers beside them. Assumes nothing.
 use mathlib.Core.Path.{_≡_, refl, ap, _∙_}
 use mathlib.Core.List.{List, [], _∷_}
 use mathlib.Core.Option.{Option, some, none}
@@ -66,7 +66,7 @@ batchInC o = batchAnswered (batchAnswerOf (o .answer)) (o .cells)
 
 -- ---- the border
 
--- a face is a number, 0 to 5 in the order of the Rust
+-- SCOPE 5.8: a face is a number, 0 to 5 in the order of the Rust
 abbrev pub faceOf : ℕ → Option Face
 faceOf zero = some PosX
 faceOf (suc zero) = some NegX
@@ -87,7 +87,7 @@ borderAnswered a b = record { answer = a; border = b }
 abbrev pub borderInC : Bordered → BorderAnswered
 borderInC o = borderAnswered (answerOf (o .answer)) (o .border)
 
--- a number that names no face gets 99, which 01 does not use, before all other tests; the border is left as it was
+-- SCOPE 10.6: a number that names no face gets 99, before all other tests; the border is left as it was
 abbrev pub borderAt : Option Face → ℕ → List ℕ → List ℕ → BorderAnswered
 borderAt (some face) size c b = borderInC (borderDoes face size c b)
 borderAt none size c b = borderAnswered (answer 99 0 0) b
@@ -98,7 +98,7 @@ borderInCDoes n size c b = borderAt (faceOf n) size c b
 
 -- ---- the tally
 
--- its lists are free in their order, so that its promise is a relation: `answer` is the one that `Tallied` allows
+-- SCOPE 5.9: its lists are free in their order, so that its promise is a relation: `answer` is the one that `Tallied` allows
 pub record TalliedInC (size : ℕ) (c : List ℕ) (r : AnswerInC) (ids counts ids′ counts′ : List ℕ) : Type 0 where
   pub answer : Answer
   pub is : r ≡ answerOf answer

@@ -1,5 +1,5 @@
-// Each answer of a call on cells in numbers, for the C boundary: 01's number of a refusal, 0 where the call is accepted, its line, and
-// its values.
+// Each answer of a call on cells in numbers, for the C boundary: the refusal's number (SCOPE 10), 0 where the call is accepted, its line,
+// and its values.
 ghost use mathlib.Core.Path.{_≡_};
 ghost use mathlib.Core.Option.{some};
 ghost use Prim.Native.Nat.{_≤_};

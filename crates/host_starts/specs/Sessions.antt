@@ -1,4 +1,4 @@
--- What a fresh session and reopening answer at the C boundary. Assumes nothing.
+-- What a fresh session and reopening answer at the C boundary (SCOPE 7.2, 9.3). Assumes nothing.
 use mathlib.Core.Path.{_≡_, ap, _∙_}
 use mathlib.Core.List.{List}
 use Prim.Native.Nat.{ℕ}
@@ -29,7 +29,7 @@ started s lines trailing = record { session = s; number = 0; line = 0; lines = l
 abbrev pub notStarted : ℕ → ℕ → Start
 notStarted number line = record { session = noSession; number = number; line = line; lines = 0; trailing = 0 }
 
--- 01's number, line and values of each case of a fresh session, whose journal is its first line
+-- number, line and values of each case of a fresh session, whose journal is its first line
 abbrev pub freshStart : Fresh → Start
 freshStart (Started s) = started s 1 0
 freshStart (NotStarted number line) = notStarted number line

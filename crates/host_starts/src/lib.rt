@@ -1,4 +1,4 @@
-// The answer of a fresh session and of reopening in numbers, for the C boundary.
+// The answer of a fresh session (SCOPE 7.2) and of reopening (SCOPE 9.3) in numbers, for the C boundary.
 ghost use mathlib.Core.Path.{_≡_};
 ghost use Rattle.host_starts.specs.Sessions.{started, notStarted, freshStart, reopenStart};
 use session_calls::Fresh;

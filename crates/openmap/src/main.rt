@@ -1,4 +1,4 @@
-// Opens a map: reads a journal on standard input and prints what it gives. Run in the gate on 01's listing.
+// The program `openmap` (SCOPE 11): a journal in, the map that it gives out. The gate runs it on example k (SCOPE 12).
 fn main() {
     openmap_main::open_map();
 }

@@ -1,4 +1,4 @@
--- What reading and writing make of the answers of their calls. Assumes nothing.
+-- What reading and writing make of the answers of their calls (SCOPE 11.1, 11.5). Assumes nothing.
 use mathlib.Core.Path.{_≡_, refl}
 use mathlib.Core.Bool.{Bool, true, false}
 use mathlib.Core.List.{List}
@@ -33,7 +33,7 @@ unfoldable pub stepOf : ℕ → ℤ → ℤ → Step
 stepOf at (pos n) error = went at n
 stepOf at (negsuc n) error = broken at (interrupted error)
 
--- nothing but an answer of 0 is the end of the input: no call that failed or was interrupted is
+-- SCOPE 11.5: nothing but an answer of 0 is the end of the input: no call that failed or was interrupted is
 pub end-is-0 : (at : ℕ) (answer error : ℤ) → stepOf at answer error ≡ End → answer ≡ pos 0
 unfolding stepOf
 end-is-0 at (pos zero) error e = refl
@@ -67,8 +67,8 @@ pub record ReadOn (before : List ℕ) (at : ℕ) (s : Step) (after : List ℕ) :
   pub length-stays : length after ≡ length before
   pub earlier-stay : take at after ≡ take at before
 
--- 01, Beside the chain: "A program reads a journal on standard input": one that was not read to its end is none. With `at`
--- bytes read, by how the last call left the reading
+-- SCOPE 11.1, 11.5: what a reading came to, by how its last call left it with `at` bytes read; an input that was not read to its end is no
+-- journal
 abbrev pub readingOf : ℕ → Step → Reading
 readingOf at (At next) = Reading.Failed
 readingOf at End = Whole at

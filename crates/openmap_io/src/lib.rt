@@ -1,12 +1,12 @@
-// Standard input read to its end, and a text written whole to standard output. A call that a signal interrupted is made again, one that moved a
-// part goes on behind it, and one that failed is told from the end of the input.
+// Standard input read to its end (SCOPE 11.1), and a text written whole to standard output. A call that a signal interrupted is made again, one that
+// moved a part goes on behind it, and one that failed is not taken for the end of the input (SCOPE 11.5).
 ghost use mathlib.Core.Path.{_≡_};
 ghost use Prim.Native.Nat.{_+_, _<_};
 ghost use lib.ListN.{length};
 ghost use Rattle.libc.specs.Io.{Moved};
 ghost use Rattle.openmap_io.specs.Steps.{stepOf, readingOf, Reaches, ReadOn, Held};
 
-// Where a reading or a writing stands after a call: it goes on at a byte, or the call moved nothing, or it failed.
+// How far a reading or a writing is after a call: it goes on at a byte, or the call moved nothing, or it failed.
 enum Step {
     At(usize),
     End,

@@ -1,4 +1,4 @@
--- Text written at a place of a buffer, one piece behind another. Assumes nothing.
+-- Text written at a place of a buffer, one piece behind another (SCOPE 11.2). Assumes nothing.
 use mathlib.Core.Path.{_≡_, sym, _∙_, ap, subst}
 use mathlib.Core.List.{List, [], _∷_, _++_, append-assoc}
 use Prim.Native.Nat.{ℕ, _+_, _≤_, _<_}
@@ -22,7 +22,7 @@ pub written-one : (o : List ℕ) (p b : ℕ) → p < length o → set o p b ≡ 
 unfolding written
 written-one o p b h = rw add-one (set-split o p b h)
 
--- what stands behind the text stays
+-- what is behind the text stays
 drop-written : (o : List ℕ) (p : ℕ) (t : List ℕ) (k : ℕ) → p + length t ≤ length o → drop (p + length t + k) (written o p t) ≡ drop (p + length t + k) o
 unfolding written
 drop-written o p t k h =

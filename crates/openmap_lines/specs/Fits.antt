@@ -1,4 +1,4 @@
--- What the writers of the text ask for: space in the buffer. Assumes nothing.
+-- What the writers of the text ask for (SCOPE 11.2): space in the buffer. Assumes nothing.
 use mathlib.Core.List.{List}
 use Prim.Native.Nat.{ℕ, _+_, _≤_}
 use lib.ListN.{length}

@@ -1,4 +1,4 @@
--- A field with the tab that parts it from the one before. Assumes nothing.
+-- A field with the tab that separates it from the one before (SCOPE 11.4). Assumes nothing.
 use mathlib.Core.Path.{_≡_}
 use mathlib.Core.List.{List, _∷_}
 use Prim.Native.Nat.{ℕ}
@@ -6,7 +6,7 @@ use lib.Dec.{eqb}
 use borrow.Author.Tests.{eq-eqb, ne-eqb}
 use Rattle.text.specs.Pick.{pick}
 
--- field x of a line, with the tab that parts it from the one before
+-- field x of a line, with the tab that separates it from the one before
 unfoldable pub parted : ℕ → List ℕ → List ℕ
 parted x t = pick (eqb x 0) t (9 ∷ t)
 

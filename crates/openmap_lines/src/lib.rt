@@ -1,4 +1,4 @@
-// The lines that the program prints, piece behind piece into a borrowed buffer: fields, and the first line.
+// The lines that the program prints (SCOPE 11.2 to 11.4), piece behind piece into a borrowed buffer: fields, and the first line.
 ghost use mathlib.Core.List.{[], _∷_};
 ghost use Prim.Native.Nat.{_≤_};
 ghost use lib.ListN.{length};
@@ -49,7 +49,7 @@ fn put_field(out: &mut [u8], at: usize, n: u64) -> usize
     put_number(out, p, n)
 }
 
-// Field x of a line: a tab parts it from the one before.
+// Field x of a line: a tab separates it from the one before.
 pub fn put_parted(out: &mut [u8], at: usize, x: usize, n: u64) -> usize
     requires { ⌜ Fits (now out) at (parted x (decimal n)) ⌝ }
     ensures { λ r. ⌜ Appended (now (out .entry)) at (parted x (decimal n)) (now (out .exit)) r ⌝ }
@@ -60,7 +60,7 @@ pub fn put_parted(out: &mut [u8], at: usize, x: usize, n: u64) -> usize
     put_field(out, at, n)
 }
 
-// The first line of an opened map: OK, whole lines, active edits, non-air count, trailing bytes.
+// The first line of an opened map (SCOPE 11.2): OK, whole lines, active edits, non-air count, trailing bytes.
 pub fn put_opened(out: &mut [u8], lines: usize, active: usize, count: u32, trailing: usize) -> usize
     requires { ⌜ 87 ≤ length (now out) ⌝ }
     ensures { λ r. ⌜ Appended (now (out .entry)) 0 (okText lines active count trailing) (now (out .exit)) r × (length (okText lines active count trailing) ≤ 87) ⌝ }
@@ -73,7 +73,7 @@ pub fn put_opened(out: &mut [u8], lines: usize, active: usize, count: u32, trail
     put_byte(out, e, b'\n')
 }
 
-// The line of a refusal: NO, its number, its line.
+// The line of a refusal (SCOPE 11.3): NO, its number, its line.
 pub fn put_refused(out: &mut [u8], number: u32, line: usize) -> usize
     requires { ⌜ 45 ≤ length (now out) ⌝ }
     ensures { λ r. ⌜ Appended (now (out .entry)) 0 (noText number line) (now (out .exit)) r ⌝ }

@@ -1,5 +1,5 @@
-// What the programs share that open a map: standard input is read to its end, `report` makes the text, and it is written whole.
-// A read or a write that fails is told in a line on standard error; of a journal that was not read to its end nothing is opened.
+// What the programs share that open a map (SCOPE 11): standard input is read to its end, `report` makes the text, and it is written whole.
+// A read or a write that fails is reported in a line on standard error (SCOPE 11.5); of a journal that was not read to its end nothing is opened.
 ghost use mathlib.Core.Path.{_≡_};
 ghost use lib.ListN.{length};
 use openmap_io::Reading;
@@ -45,7 +45,7 @@ pub fn print_map(journal: &[u8]) {
     }
 }
 
-// Opens the map whose journal stands on standard input.
+// Opens the map whose journal comes on standard input.
 pub fn open_map() {
     let mut journal = journal_room();
     let reading = read_journal(&mut journal);

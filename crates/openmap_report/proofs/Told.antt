@@ -1,4 +1,4 @@
--- What reopening leaves, as `report` tells it. Assumes nothing.
+-- What reopening leaves, as `report` prints it. Assumes nothing.
 use mathlib.Core.Path.{_≡_, refl, sym, _∙_, ap, subst}
 use mathlib.Core.List.{List, [], _++_}
 use mathlib.Core.Option.{some}

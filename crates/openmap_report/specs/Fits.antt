@@ -1,4 +1,4 @@
--- What the writer of an answer asks for: an opened map's cells are of its size, and the buffer holds the longest text. Assumes nothing.
+-- What the writer of an answer asks for (SCOPE 11.2): an opened map's cells are of its size, and the buffer holds the longest text. Assumes nothing.
 use mathlib.Core.List.{List}
 use Prim.Native.Nat.{ℕ, _≤_}
 use lib.ListN.{length}

@@ -1,4 +1,4 @@
--- When the program refuses, and with which number. Assumes nothing.
+-- When the program refuses, and with which number (SCOPE 11.3). Assumes nothing.
 use mathlib.Core.Path.{_≡_, sym, _∙_, ap}
 use mathlib.Core.Bool.{Bool, true, false, _&&_}
 use mathlib.Core.List.{List, [], _++_}
@@ -65,7 +65,7 @@ module _ (j : List ℕ) (held : ℕ) (c : List ℕ) (enough : 4096 ≤ length c)
   refused-first n line e = ap reportText (reopen-is (take (lentCells j held) c) j held ∙ ap (fromOpening (take (lentCells j held) c) j held) e)
 
   module _ (h : Header) (n second : ℕ) (e : openingOf j held ≡ Opens h n second) where
-    -- 01, Beside the chain: "Size above 16 gives NO 6 0, after 9 to 11 and 1 to 5."
+    -- SCOPE 11.3: 6 for a size above 16
     pub above-16 : 16 < natAbs (h .«chunk_size») → printed j held c ≡ noText 6 0
     unfolding reportText answerText lentCells
     above-16 big =

@@ -1,4 +1,4 @@
--- What `report` does: the text, its length and the cells. Assumes nothing.
+-- What `report` does (SCOPE 11.1 to 11.3): the text, its length and the cells. Assumes nothing.
 use mathlib.Core.Bool.{_&&_}
 use mathlib.Core.List.{List, _++_}
 use Prim.Native.Nat.{ℕ}
@@ -14,8 +14,8 @@ use Rattle.session_calls.specs.Record.{cube}
 use Rattle.session_calls.specs.Calls.{Resumed, reopenDoes}
 use Rattle.openmap_report.specs.Text.{reportText}
 
--- 01, Beside the chain: "lends up to 4,096 cells": size³ of them where the first line has a size of at most 16, else all;
--- 17³ is 4,913, so that "Size above 16 gives NO 6 0, after 9 to 11 and 1 to 5" comes out of reopening itself
+-- SCOPE 11.1: size³ cells are lent where the first line has a size of at most 16, else all 4,096;
+-- 17³ is 4,913, so that a larger size gets 6 from reopening itself, at its place in the order (SCOPE 11.3)
 abbrev pub lentBy : Opening → ℕ
 lentBy (Opens h n second) = pick (leb (natAbs (h .«chunk_size»)) 16) (cube (natAbs (h .«chunk_size»))) 4096
 lentBy (Refused number line) = 4096

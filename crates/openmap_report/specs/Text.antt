@@ -1,4 +1,4 @@
--- The text of a reopened map, as the program prints it. Assumes nothing.
+-- The text of a reopened map, as the program prints it (SCOPE 11.2, 11.3). Assumes nothing.
 use mathlib.Core.List.{List, _++_}
 use Prim.Native.Nat.{ℕ}
 use Rattle.session_calls.specs.Record.{sizeOf}

@@ -1,4 +1,4 @@
-// The text of a reopened map, as the program prints it: written into a borrowed buffer, piece behind piece.
+// The text of a reopened map, as the program prints it (SCOPE 11.2, 11.3): written into a borrowed buffer, piece behind piece.
 ghost use mathlib.Core.Path.{_≡_};
 ghost use Prim.Native.Nat.{_≤_};
 ghost use lib.IntN.{natAbs};

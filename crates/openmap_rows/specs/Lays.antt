@@ -1,4 +1,4 @@
--- What the writers of rows ask for: cells of their size, and space in the buffer. Assumes nothing.
+-- What the writers of rows ask for (SCOPE 11.2): cells of their size, and space in the buffer. Assumes nothing.
 use mathlib.Core.List.{List}
 use Prim.Native.Nat.{ℕ, _+_, _≤_}
 use lib.ListN.{length}

@@ -1,4 +1,4 @@
--- How long the rows are, and a line as a writer makes it: each field but the first has its tab before it. Assumes nothing.
+-- How long the rows are (SCOPE 11.2), and a line as a writer makes it: each field but the first has its tab before it. Assumes nothing.
 use mathlib.Core.Path.{_≡_, refl, sym, _∙_, ap}
 use mathlib.Core.Bool.{Bool, true, false, cond}
 use mathlib.Core.List.{List, [], _∷_, _++_, append-assoc}

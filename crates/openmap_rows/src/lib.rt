@@ -1,4 +1,4 @@
-// The rows of a map, as the program prints them: into a borrowed buffer, row behind row.
+// The rows of a map, as the program prints them (SCOPE 11.2): into a borrowed buffer, row behind row.
 ghost use Rattle.openmap_lines.specs.Text.{rowText, layerText, mapText};
 ghost use Rattle.openmap_lines.specs.Appended.{Appended};
 ghost use Rattle.openmap_rows.specs.Lays.{Lays};

@@ -1,4 +1,4 @@
-// Every refusal that a short journal can get, in one run: the journals are the program's own, and their texts go the way of
+// Every refusal that a short journal can get (SCOPE 10.4, 11.3), in one run: the journals are the program's own, and their texts go the way of
 // `openmap`, but for the reading.
 fn main() {
     // Size, seed, sea level and world height off their limits: the size comes first.

@@ -1,4 +1,4 @@
--- `openmap_lines::put_text` meets its contract. The loop's invariant: the first `i` bytes of the text stand at their place. Assumes nothing.
+-- `openmap_lines::put_text` meets its contract. The loop's invariant: the first `i` bytes of the text are at their place. Assumes nothing.
 use mathlib.Core.Path.{_≡_, _∙_, ap}
 use Prim.Native.Nat.{ℕ, _+_, _-_, _≤_}
 use native.Mathlib.Omega.{arith}
