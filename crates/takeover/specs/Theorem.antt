@@ -1,5 +1,5 @@
--- The takeover theorem, proved: what was made is what the calls' definitions give one after the other, and the theorem over the definitions
--- (`Takeover` of the crate `takeover_model`) is carried over. Assumes nothing.
+-- The takeover theorem (SCOPE 9.5), proved: what was made is what the calls' definitions give one after the other, and the theorem over the
+-- definitions (`Takeover` of the crate `takeover_model`) is carried over. Assumes nothing.
 use mathlib.Core.Path.{_≡_, refl, sym, _∙_, ap, subst}
 use mathlib.Core.List.{List, _∷_}
 use Prim.Native.Nat.{ℕ, zero, suc, _≤_, _<_}
