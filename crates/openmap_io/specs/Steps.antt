@@ -67,8 +67,7 @@ pub record ReadOn (before : List ℕ) (at : ℕ) (s : Step) (after : List ℕ) :
   pub length-stays : length after ≡ length before
   pub earlier-stay : take at after ≡ take at before
 
--- SCOPE 11.1, 11.5: what a reading came to, by how its last call left it with `at` bytes read; an input that was not read to its end is no
--- journal
+-- SCOPE 11.5: what a reading came to, by how its last call left it with `at` bytes read; one that did not get to the end of the input failed
 abbrev pub readingOf : ℕ → Step → Reading
 readingOf at (At next) = Reading.Failed
 readingOf at End = Whole at

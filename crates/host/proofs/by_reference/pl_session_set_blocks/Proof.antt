@@ -138,7 +138,7 @@ module _ {M : Type 1} (𝓤 : URA M) (H : Heap 𝓤) (A : Atoms 𝓤) (W : Given
         split ! $ move ! (1 ∷ []) $ use1 W (some (λ (zs : Unit {0} × (List ℕ × (List ℕ × (Unit {0} × (Unit {0}))))). ‵ (lasts callee.ended (κ₁, (κ₂, (κ₃, tt))) (h, (x₁, (x₂, (x₃, tt)))) zs) ⊛ raw (fact 𝓤 (Ensures h (x₁ .now) (x₂ .now) (x₃ .now) r (zs .1 .0) (zs .1 .1 .0))))) (id⊢ 𝓤 _) $ pick ! (λ zs.
         split ! $ move ! (1 ∷ []) $ heard ! (Ensures h (x₁ .now) (x₂ .now) (x₃ .now) r (zs .1 .0) (zs .1 .1 .0)) (λ e.
         fsplit ! $ drop ! $ fsplit ! $ fsplit ! $ move ! (1 ∷ []) $ feqL ! (λ e₁. move ! (1 ∷ []) $ fsplit ! $ fsplit ! $ move ! (1 ∷ []) $ feqL ! (λ e₂. move ! (1 ∷ []) $ drop ! $
-        -- [the last journal; the last cells; the tokens and the result; what `groups` owns; the record's cell; the open borrow; obs; auth; the locals]
+        -- [the last journal; the last cells; the tokens and the result; what `edits` owns; the record's cell; the open borrow; obs; auth; the locals]
         move ! (2 ∷ []) $ split ! $ move ! (1 ∷ []) $ peeks ! B.the-row (Is B.the-row) (shows 𝓤 H A B.the-row) r (w ∷ []) (λ is. drop ! $
         land ! (from ! (stop !)) (init ! 18 refl (LL.lawful B.the-type B′.the-laws 𝓤 H A W .typed r _ is .0)) $ rewrite ! 18 (λ (u : Val). ‵ (fat fullShare B′.mir l₅ 0 u)) (ap only (LL.tells B.the-type B′.the-laws r _ is)) refl $
         -- the record is stored whole, the reply is copied, and the borrow is closed
