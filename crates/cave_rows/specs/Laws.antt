@@ -7,7 +7,7 @@ use native.Mathlib.Omega.{arith}
 use lib.IntN.{ℤ, pos, _+ℤ_}
 use lib.Ieee.{Float, lt, add, mul}
 use Rattle.num.specs.Num.{nearest, clamp₃₂}
-use Rattle.num.specs.Laws.{ap₃}
+use Rattle.basics.specs.Paths.{ap₃}
 use Rattle.noise.specs.Noise.{octave, octaves, fbm, along3, noise3d₃₂, fbm3d₃₂}
 use Rattle.column.specs.Floats.{_+f_, _-f_, _*f_, _/f_, nat, real, square}
 use Rattle.noise_tables.specs.Places.{Tells, Noted}

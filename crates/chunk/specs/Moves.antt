@@ -4,15 +4,16 @@ use Prim.Native.Nat.{ℕ, zero, suc, _+_, _-_, _*_, _/_, _%_, _≤_, _<_}
 use native.Mathlib.Omega.{arith}
 use native.Mathlib.Nat.{zero-mul, mul-le-mul}
 use native.Mathlib.Numerals.{add-one}
-use mathlib.Core.Bool.{Bool, true, false, cond}
+use mathlib.Core.Bool.{Bool, true, false}
 use mathlib.Core.List.{List, [], _∷_, _++_}
-use lib.Dec.{ltb, leb, eqb}
+use lib.Dec.{ltb, leb}
 use lib.ListN.{length, set, getD}
-use lib.Seq.{getD-set-other, ext-getD}
-use Rattle.grid.specs.Cube.{cellIndex, putAt, seeAt, steps, tab}
-use Rattle.grid.specs.Grid.{index-lt, index-y, in-all, put-length, steps-length, steps-none, steps-more, tab-length, tab-at}
-use Rattle.grid.specs.Count.{nonAir, nonAirCount, count-most}
-use Rattle.grid_edits.specs.Edits.{pick, columnHeight, layColumn, fillCells, setCells}
+use lib.Seq.{getD-set-other}
+use Rattle.basics.specs.Bools.{pick}
+use Rattle.grid.specs.Cube.{cellIndex, putAt, seeAt, steps}
+use Rattle.grid.specs.Grid.{index-lt, index-y, in-all, put-length, steps-length, steps-none, steps-more}
+use Rattle.grid.specs.Count.{nonAir, nonAirCount, count-most, non-air-most}
+use Rattle.grid_edits.specs.Edits.{columnHeight, layColumn, fillCells, setCells}
 use borrow.Author.Tests.{ltb-true, leb-true, leb-false, le-leb, lt-leb}
 use Rattle.config.specs.Refusals.{passed, refusal, passed-on, passed-stop, refusal-none}
 use Rattle.config.specs.Answers.{accepted, refusedWith, is-refused, not-refused, outcome}
@@ -56,13 +57,6 @@ column-count-none s x z c = refl
 pub column-count-more : (s x z h : ℕ) (c : List ℕ) → columnCount s x z (h + 1) c ≡ columnCount s x z h c + nonAir (seeAt s x h z c)
 unfolding columnCount
 column-count-more s x z h c = ap (λ (k : ℕ). columnCount s x z k c) (add-one h)
-
-pub non-air-most : (v : ℕ) → nonAir v ≤ 1
-non-air-most v = most (eqb v 0)
-  where
-    most : (b : Bool) → cond b 0 1 ≤ 1
-    most true = omega arith
-    most false = omega arith
 
 pub column-count-most : (s x z h : ℕ) (c : List ℕ) → columnCount s x z h c ≤ h
 unfolding columnCount
@@ -186,12 +180,6 @@ height-inside s x z h y l = at (ltb x s) refl (ltb z s) refl l
     at true p true q l′ = record { x-in = ltb-true x s p; y-in = (let k = height-most s x z h in omega arith); z-in = ltb-true z s q }
     at true p false q l′ = absurd (omega arith)
     at false p b q l′ = absurd (omega arith)
-
--- the list of a list's elements
-pub tab-list : (c : List ℕ) → tab (length c) (λ (k : ℕ). getD c k 0) ≡ c
-tab-list c =
-    ext-getD 0 _ c (tab-length (length c) (λ (k : ℕ). getD c k 0))
-    (λ i h. tab-at (length c) (λ (k : ℕ). getD c k 0) i (let e = tab-length (length c) (λ (k : ℕ). getD c k 0) in omega arith))
 
 -- ---- what a set and a column move
 

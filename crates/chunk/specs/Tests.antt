@@ -8,7 +8,7 @@ use lib.Dec.{T, ltb, leb, eqb}
 use lib.IntN.{pos}
 use lib.ListN.{length}
 use borrow.Author.Tests.{leb-true, eqb-true, ltb-true, le-leb, lt-leb}
-use Rattle.text.specs.Pick.{and-both}
+use Rattle.basics.specs.Bools.{and-both}
 use Rattle.grid.specs.Cube.{Cube, cellIndex, inside}
 use Rattle.grid.specs.Grid.{index-lt, cube-most}
 use Rattle.config.specs.Refusals.{must, passed, refusal, refusal-zero, passed-zero, passed-on, passed-stop, refusal-none, refusal-pass, refusal-stop}

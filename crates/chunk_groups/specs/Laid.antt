@@ -8,7 +8,7 @@ use lib.Dec.{ltb, eqb}
 use lib.ListN.{length, set, drop}
 use lib.Seq.{getD-set-same, getD-set-other}
 use borrow.Author.Tests.{ltb-true, ltb-false, eqb-true, eq-eqb}
-use Rattle.text.specs.Pick.{pick, by-bool, and-both}
+use Rattle.basics.specs.Bools.{pick, by-bool, and-both}
 use Rattle.grid.specs.Cube.{Cube, cellIndex, inside, putAt, seeAt, steps}
 use Rattle.grid.specs.Grid.{index-lt, index-x, index-y, index-z, out-x, out-y, out-z, put-length, steps-length, steps-none, steps-more}
 use Rattle.chunk.specs.Tests.{Inside}

@@ -6,8 +6,8 @@ use Prim.Native.Nat.{ℕ, _+_, _*_, _/_, _≤_}
 use native.Mathlib.Omega.{arith}
 use lib.ListN.{length}
 use Rattle.grid.specs.Cube.{Cube, seeAt}
-use Rattle.grid.specs.Count.{nonAir, nonAirCount}
-use Rattle.chunk.specs.Moves.{put-count, non-air-most}
+use Rattle.grid.specs.Count.{nonAir, nonAirCount, non-air-most}
+use Rattle.chunk.specs.Moves.{put-count}
 use Rattle.grid_edits.specs.Edits.{Group, groupInside, putGroup, batchGroups, insideGroups, batchCells}
 use Rattle.journal_write.specs.Groups.{groupOf}
 use Rattle.chunk_groups.specs.Laid.{laid, laid-none, laid-more, laid-cube, laid-all, group-inside, put-outside}

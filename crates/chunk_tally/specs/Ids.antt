@@ -9,7 +9,7 @@ use lib.Dec.{ltb, eqb}
 use lib.ListN.{length, set, getD, take, length-set}
 use lib.Seq.{ext-getD, getD-set-same, getD-set-other, take-suc}
 use borrow.Author.Tests.{ltb-true, ltb-false, ne-eqb, eqb-true, eqb-false}
-use Rattle.text.specs.Pick.{pick}
+use Rattle.basics.specs.Bools.{pick}
 use Rattle.grid.specs.Cube.{tab}
 use Rattle.grid.specs.Grid.{tab-length, tab-at}
 

@@ -9,7 +9,7 @@ use lib.Dec.{ltb}
 use lib.ListN.{length, getD, drop, length-append, length-drop, List·getD-append}
 use lib.Seq.{drop-at, getD-at}
 use borrow.Author.Tests.{lt-ltb, ltb-true, ltb-false, le-leb, lt-leb}
-use Rattle.text.specs.Pick.{pick, and-both}
+use Rattle.basics.specs.Bools.{pick, and-both}
 use Rattle.chunk_tally.specs.Ids.{listIf, span, idCount, presentIds, presentCounts}
 use Rattle.chunk_tally.specs.Spans.{last-case, span-length}
 use Rattle.chunk_tally.specs.Tally.{Place, Listing, Past, Tallied, tallyRefusal}

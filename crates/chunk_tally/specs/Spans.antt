@@ -2,7 +2,7 @@
 use mathlib.Core.Path.{_≡_, refl, sym, ap, ap₂, _∙_}
 use Prim.Native.Nat.{ℕ, zero, suc, _+_, _-_, _*_, _≤_, _<_}
 use native.Mathlib.Omega.{arith}
-use native.Mathlib.Nat.{zero-add, add-suc, add-zero}
+use native.Mathlib.Nat.{zero-add, add-suc, add-zero, pos-of-ne-zero}
 use native.Mathlib.Numerals.{add-one}
 use mathlib.Core.Bool.{Bool, true, false, _&&_}
 use mathlib.Core.List.{List, [], _∷_, _++_, append-assoc, append-nil}
@@ -11,7 +11,7 @@ use lib.Dec.{ltb}
 use lib.ListN.{length, set, getD, drop, length-append, length-drop, List·getD-append}
 use lib.Seq.{sets, sets-eq, take-at, drop-append-add, drop-drop, getD-at}
 use borrow.Author.Tests.{ltb-true, ltb-false, lt-ltb, le-ltb}
-use Rattle.text.specs.Pick.{pick}
+use Rattle.basics.specs.Bools.{pick}
 use Rattle.chunk_tally.specs.Ids.{listIf, span, idCount, idTable, table-at, windowIds, windowCounts, seenIds, seenCounts, presentIds}
 
 pub span-more : (b m : ℕ) (f x : ℕ → ℕ) → span b (m + 1) f x ≡ span b m f x ++ listIf (b + m) (f (b + m)) (x (b + m))
@@ -152,11 +152,7 @@ list-no-cell id n x e = at (ltb 0 id) (le-ltb 0 n (omega arith))
     at false q = refl
 
 pub list-one : (id n x : ℕ) → (id ≡ 0 → ⊥) → (n ≡ 0 → ⊥) → listIf id n x ≡ x ∷ []
-list-one id n x p q = rw (lt-ltb 0 id (above id p), lt-ltb 0 n (above n q))
-  where
-    above : (k : ℕ) → (k ≡ 0 → ⊥) → 0 < k
-    above zero h = absurd (h refl)
-    above (suc k) h = omega arith
+list-one id n x p q = rw (lt-ltb 0 id (pos-of-ne-zero p), lt-ltb 0 n (pos-of-ne-zero q))
 
 -- ---- a window, id by id
 

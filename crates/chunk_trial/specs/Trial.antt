@@ -9,12 +9,12 @@ use lib.Dec.{ltb, eqb}
 use lib.ListN.{length, set, getD, length-set, List·getD-eq-default}
 use lib.Seq.{getD-set-same, getD-set-other, ext-getD}
 use borrow.Author.Tests.{ltb-true, ltb-false, eqb-true, eqb-false}
-use Rattle.text.specs.Pick.{pick, by-bool}
+use Rattle.basics.specs.Bools.{pick, by-bool}
 use Rattle.grid.specs.Cube.{Cube, cellIndex, tab, steps}
-use Rattle.grid.specs.Grid.{index-lt, tab-length, tab-at, cube-most, steps-length}
+use Rattle.grid.specs.Grid.{index-lt, tab-length, tab-at, cube-most, steps-length, tab-list}
 use Rattle.grid.specs.Count.{nonAir, nonAirCount, count-append, count-none, count-one, count-most}
 use Rattle.chunk.specs.Tests.{Inside}
-use Rattle.chunk.specs.Moves.{put-inside, tab-list}
+use Rattle.chunk.specs.Moves.{put-inside}
 use Rattle.grid_edits.specs.Edits.{Group, groupInside, putGroup, batchGroups, insideGroups, batchCells}
 use Rattle.journal_write.specs.Groups.{groupOf}
 use Rattle.chunk_groups.specs.Laid.{laid, laid-length, laid-all, group-inside, put-outside}

@@ -3,7 +3,7 @@ use mathlib.Core.Path.{_≡_, ap, ap₂, _∙_}
 use Prim.Native.Nat.{ℕ, _<_}
 use mathlib.Core.List.{List}
 use lib.Ieee.{Float}
-use Rattle.num.specs.Laws.{ap₃, ap₄}
+use Rattle.basics.specs.Paths.{ap₃, ap₄}
 use Rattle.noise_tables.specs.Row.{at}
 use Rattle.column.specs.Floats.{nat}
 use Rattle.column.specs.Column.{columnWith, ridgesOf, ridges₃₂, plateau₃₂, climateOf, reliefOf}

@@ -3,7 +3,7 @@ use mathlib.Core.Path.{_≡_, sym, ap, ap₂, _∙_, subst}
 use mathlib.Core.List.{List, _++_}
 use Prim.Native.Nat.{ℕ, zero, suc, _+_, _*_, _≤_, _<_}
 use native.Mathlib.Omega.{arith}
-use native.Mathlib.Nat.{add-mul, mul-le-mul-right}
+use native.Mathlib.Nat.{add-mul}
 use lib.Arith.{digits-div, digits-mod}
 use lib.IntN.{ℤ, pos, _+ℤ_}
 use lib.ListN.{length, set, drop}
@@ -57,9 +57,6 @@ none f h size = fill-none h f ∙ ap (λ (k : ℕ). tab k f ++ drop k h) (omega 
 
 rows-more : (z size : ℕ) → z * size + size ≡ (z + 1) * size
 rows-more z size = let e = add-mul z 1 size in omega arith
-
-pub row-fits : (z size : ℕ) → z < size → z * size + size ≤ size * size
-row-fits z size h = subst (λ (k : ℕ). k ≤ size * size) (sym (rows-more z size)) (mul-le-mul-right size (omega arith))
 
 pub more : (f : ℕ → ℕ) (h l : List ℕ) (z size : ℕ) → l ≡ tab (z * size) f ++ drop (z * size) h → z * size + size ≤ length h
     → steps size (noteAt f (z * size)) l ≡ tab ((z + 1) * size) f ++ drop ((z + 1) * size) h

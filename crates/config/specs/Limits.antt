@@ -1,13 +1,15 @@
 -- The limits of settings and place (SCOPE 2), over whole numbers, and what holds within them. Assumes nothing.
 use mathlib.Core.Path.{_≡_, refl, sym, ap, _∙_, subst}
-use Prim.Native.Nat.{ℕ, suc, _+_, _-_, _≤_, _<_}
+use Prim.Native.Nat.{ℕ, _+_, _-_, _≤_, _<_}
 use native.Mathlib.Omega.{arith}
-use mathlib.Core.Bool.{Bool, true, false, _&&_, cond}
+use mathlib.Core.Bool.{Bool, true, false, _&&_, and-false}
 use mathlib.Core.List.{[], _∷_}
 use lib.Dec.{T}
 use lib.IntN.{ℤ, pos, negsuc, _+ℤ_, _-ℤ_, _*ℤ_}
 use lib.Signed.{leZ, mag}
-use borrow.Author.Tests.{leb-true, le-ltb, lt-leb}
+use borrow.Author.Tests.{leb-true, lt-leb}
+use Rattle.basics.specs.Integers.{one-less}
+use Rattle.basics.specs.Bools.{and-both}
 use Rattle.config.specs.Refusals.{must, refusal, refusal-zero}
 use Rattle.config.specs.declared.Header.{Header}
 use Rattle.config.specs.declared.TerrainConfig.{TerrainConfig}
@@ -45,6 +47,10 @@ limitRefusal h =
 abbrev pub header : ℤ → ℤ → ℤ → ℤ → ℤ → ℤ → ℤ → Header
 header seed sea height size cx cy cz = record { seed = seed; «sea_level» = sea; «world_height_blocks» = height; «chunk_size» = size; cx = cx; cy = cy; cz = cz }
 
+pub header-same : {a b c d e f g a′ b′ c′ d′ e′ f′ g′ : ℤ} → a ≡ a′ → b ≡ b′ → c ≡ c′ → d ≡ d′ → e ≡ e′ → f ≡ f′ → g ≡ g′
+    → header a b c d e f g ≡ header a′ b′ c′ d′ e′ f′ g′
+header-same p q r s t u v = cc
+
 unfoldable pub configHeader : TerrainConfig → ChunkPos → Header
 configHeader s p = header (pos (s .seed)) (s .«sea_level») (s .«world_height_blocks») (pos (s .«chunk_size»)) (p .cx) (p .cy) (p .cz)
 
@@ -54,10 +60,6 @@ pub record Narrow (h : Header) : Type 0 where
   pub cy : mag (h .cy) < 1099511627776
   pub cz : mag (h .cz) < 1099511627776
 
-both : (a b : Bool) → (a && b) ≡ true → (a ≡ true) × (b ≡ true)
-both true b e = (refl, e)
-both false b e = absurd (subst T (sym e) tt)
-
 -- a natural number between two others
 pub record Between (lo hi : ℕ) (z : ℤ) : Type 0 where
   pub n : ℕ
@@ -66,15 +68,12 @@ pub record Between (lo hi : ℕ) (z : ℤ) : Type 0 where
   pub most : n ≤ hi
 
 pub between : (lo hi : ℕ) (z : ℤ) → within (pos lo) z (pos hi) ≡ true → Between lo hi z
-between lo hi (pos n) e = let q = both (leZ (pos lo) (pos n)) _ e in record { n = n; is = refl; least = leb-true lo n (q .0); most = leb-true n hi (q .1) }
+between lo hi (pos n) e = let q = and-both (leZ (pos lo) (pos n)) _ e in record { n = n; is = refl; least = leb-true lo n (q .0); most = leb-true n hi (q .1) }
 between lo hi (negsuc n) e = absurd (subst T (sym e) tt)
 
 near-zero : (z : ℤ) → within (negsuc 4095) z (pos 4096) ≡ true → mag z ≤ 4096
-near-zero (pos n) e = leb-true n 4096 (both true _ e .1)
-near-zero (negsuc n) e = let g = leb-true n 4095 (both (leZ (negsuc 4095) (negsuc n)) true e .0) in omega arith
-
-pub one-less : (n : ℕ) → 1 ≤ n → pos n -ℤ pos 1 ≡ pos (n - 1)
-one-less n h = ap (λ (b : Bool). cond b (negsuc (1 - suc n)) (pos (n - 1))) (le-ltb n 1 h)
+near-zero (pos n) e = leb-true n 4096 (and-both true _ e .1)
+near-zero (negsuc n) e = let g = leb-true n 4095 (and-both (leZ (negsuc 4095) (negsuc n)) true e .0) in omega arith
 
 reach-mag : (z : ℤ) (k : ℕ) → leZ (negsuc 999999) z ≡ true → leZ (z +ℤ pos k) (pos 1000000) ≡ true → mag z ≤ 1000000
 reach-mag (pos n) k e d = let g = leb-true (n + k) 1000000 d in omega arith
@@ -84,7 +83,7 @@ reach-mag (negsuc n) k e d = let g = leb-true n 999999 e in omega arith
 pub reached : (size : ℕ) (c : ℤ) → 1 ≤ size → placeOk (pos size) c ≡ true → mag (c *ℤ pos size) ≤ 1000000
 unfolding placeOk
 reached size c h e =
-    let q = both (leZ (negsuc 999999) (c *ℤ pos size)) _ e in
+    let q = and-both (leZ (negsuc 999999) (c *ℤ pos size)) _ e in
     reach-mag (c *ℤ pos size) (size - 1) (q .0) (subst (λ (k : ℤ). leZ (c *ℤ pos size +ℤ k) (pos 1000000) ≡ true) (one-less size h) (q .1))
 
 -- the seven numbers are within the limits
@@ -100,10 +99,6 @@ pub record Limited (h : Header) : Type 0 where
 pub size-between : (z : ℤ) → sizeOk z ≡ true → Between 1 64 z
 unfolding sizeOk
 size-between z e = between 1 64 z e
-
-and-false : (a : Bool) → (a && false) ≡ false
-and-false true = refl
-and-false false = refl
 
 pub size-large : (n : ℕ) → 64 < n → sizeOk (pos n) ≡ false
 unfolding sizeOk
@@ -129,8 +124,8 @@ limited h e =
     let c = refusal-zero (seaOk (h .«sea_level»)) 2 _ (b .1) in
     let d = refusal-zero (heightOk (h .«world_height_blocks»)) 3 _ (c .1) in
     let f = refusal-zero (placeOk (h .«chunk_size») (h .cx) && placeOk (h .«chunk_size») (h .cy) && placeOk (h .«chunk_size») (h .cz)) 4 _ (d .1) in
-    let p = both (placeOk (h .«chunk_size») (h .cx) && placeOk (h .«chunk_size») (h .cy)) _ (f .0) in
-    let q = both (placeOk (h .«chunk_size») (h .cx)) _ (p .0) in
+    let p = and-both (placeOk (h .«chunk_size») (h .cx) && placeOk (h .«chunk_size») (h .cy)) _ (f .0) in
+    let q = and-both (placeOk (h .«chunk_size») (h .cx)) _ (p .0) in
     record {
       size = size-between (h .«chunk_size») (a .0);
       seed = seed-between (h .seed) (b .0);

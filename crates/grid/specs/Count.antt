@@ -17,6 +17,14 @@ unfoldable pub nonAirCount : List ℕ → ℕ
 nonAirCount [] = 0
 nonAirCount (v ∷ c) = nonAir v + nonAirCount c
 
+-- a cell counts for one at most
+pub non-air-most : (v : ℕ) → nonAir v ≤ 1
+non-air-most v = most (eqb v 0)
+  where
+    most : (b : Bool) → cond b 0 1 ≤ 1
+    most true = omega arith
+    most false = omega arith
+
 pub count-append : (a b : List ℕ) → nonAirCount (a ++ b) ≡ nonAirCount a + nonAirCount b
 unfolding nonAirCount
 count-append [] b = (let e : nonAirCount b ≡ 0 + nonAirCount b = omega arith in e)

@@ -7,7 +7,7 @@ use native.Mathlib.Numerals.{add-one}
 use mathlib.Core.Bool.{Bool, true, false, cond}
 use mathlib.Core.List.{List, [], _∷_, _++_, append-assoc, append-nil}
 use lib.ListN.{length, set, getD, drop, length-append, length-drop, length-set, List·getD-append, drop-of-length-le}
-use lib.Seq.{drop-cons, set-at, getD-at}
+use lib.Seq.{drop-cons, set-at, getD-at, ext-getD}
 use lib.Arith.{digits-lt, digits-div, digits-mod}
 use lib.Dec.{ltb}
 use borrow.Author.Tests.{lt-ltb, le-ltb}
@@ -63,6 +63,12 @@ tab-at (suc n) f i h = at (λ k. tab-at n f i k) (ltb i n) refl
     at q false e =
         let k : i ≡ n = (let g = borrow.Author.Tests.ltb-false i n e in omega arith) in
         getD-at (tab n f) (f n) [] 0 i (tab-length n f ∙ sym k) ∙ ap f (sym k)
+
+-- the list of a list's elements
+pub tab-list : (c : List ℕ) → tab (length c) (λ (k : ℕ). getD c k 0) ≡ c
+tab-list c =
+    ext-getD 0 _ c (tab-length (length c) (λ (k : ℕ). getD c k 0))
+    (λ i h. tab-at (length c) (λ (k : ℕ). getD c k 0) i (let e = tab-length (length c) (λ (k : ℕ). getD c k 0) in omega arith))
 
 -- a list of which the first i are filled
 pub fill-length : (c : List ℕ) (i : ℕ) (f : ℕ → ℕ) → i ≤ length c → length (tab i f ++ drop i c) ≡ length c

@@ -4,7 +4,7 @@ use mathlib.Core.Bool.{Bool, _&&_}
 use mathlib.Core.List.{List, [], _∷_}
 use lib.Dec.{ltb}
 use Rattle.grid.specs.Cube.{putAt, steps}
-pub use Rattle.text.specs.Pick.{pick}
+use Rattle.basics.specs.Bools.{pick}
 
 -- SCOPE 5.4: one cell; outside nothing changes, and the calls refuse it before
 abbrev pub setCells : ℕ → ℕ → ℕ → ℕ → ℕ → List ℕ → List ℕ

@@ -6,7 +6,8 @@ use lib.Dec.{eqb}
 use lib.IntN.{ℤ, pos, _-ℤ_}
 use borrow.Author.Tests.{eqb-true}
 use Rattle.config.specs.Refusals.{passed-zero, refusal-zero}
-use Rattle.config.specs.Limits.{limitRefusal, configHeader, Between, one-less, Fine, fine}
+use Rattle.config.specs.Limits.{limitRefusal, configHeader, Between, Fine, fine}
+use Rattle.basics.specs.Integers.{one-less}
 use Rattle.config.specs.declared.TerrainConfig.{TerrainConfig}
 use Rattle.config.specs.declared.ChunkPos.{ChunkPos}
 use Rattle.ground_cell.specs.World.{Tall, Near}

@@ -1,8 +1,8 @@
 -- A hash is not negative (SCOPE 3.5), nor is what it is multiplied to: so a conversion to a whole number has no sign to lose. Assumes nothing.
-use mathlib.Core.Path.{_≡_, refl, sym, ap, subst}
+use mathlib.Core.Path.{_≡_, refl, ap}
 use Prim.Native.Nat.{ℕ, zero, suc, _+_, _-_, _*_, _/_, _%_, _^_, compare}
-use mathlib.Core.Bool.{Bool, true, false, not, cond}
-use lib.Dec.{T, ltb, eqb}
+use mathlib.Core.Bool.{Bool, true, false, not, cond, false≢true}
+use lib.Dec.{ltb, eqb}
 use lib.IntN.{ℤ, pos, negsuc, _+ℤ_}
 use lib.Ieee.{Float, nan, inf, fin, binary32, round, units, odd, mul, div, ofInt, toSigned, low, emax, prec, up, down}
 use Rattle.num.specs.Num.{nearest, toI32}
@@ -46,31 +46,28 @@ round-plus n d =
     let u = d * 2 ^ k in
     units-plus (lib.Ieee.nearest (m / u) (compare (m % u * 2) u)) k
 
-never : false ≡ true → ⊥
-never e = subst T (sym e) tt
-
 pub mul-plus : (x y : Float) → plus x ≡ true → plus y ≡ true → plus (mul binary32 x y) ≡ true
 unfolding mul
 mul-plus nan y p q = refl
-mul-plus (inf true) y p q = absurd (never p)
+mul-plus (inf true) y p q = absurd (false≢true p)
 mul-plus (inf false) nan p q = refl
-mul-plus (inf false) (inf true) p q = absurd (never q)
+mul-plus (inf false) (inf true) p q = absurd (false≢true q)
 mul-plus (inf false) (inf false) p q = refl
-mul-plus (inf false) (fin true n d) p q = absurd (never q)
+mul-plus (inf false) (fin true n d) p q = absurd (false≢true q)
 mul-plus (inf false) (fin false n d) p q = either-plus (eqb n 0) nan (inf false) refl refl
-mul-plus (fin true m e) y p q = absurd (never p)
+mul-plus (fin true m e) y p q = absurd (false≢true p)
 mul-plus (fin false m e) nan p q = refl
-mul-plus (fin false m e) (inf true) p q = absurd (never q)
+mul-plus (fin false m e) (inf true) p q = absurd (false≢true q)
 mul-plus (fin false m e) (inf false) p q = either-plus (eqb m 0) nan (inf false) refl refl
-mul-plus (fin false m e) (fin true n d) p q = absurd (never q)
+mul-plus (fin false m e) (fin true n d) p q = absurd (false≢true q)
 mul-plus (fin false m e) (fin false n d) p q = round-plus (m * up e * (n * up d)) (down e * down d)
 
 over-plus : (x : Float) → plus x ≡ true → plus (div binary32 x (fin false 1 (pos 31))) ≡ true
 unfolding div
 over-plus nan p = refl
-over-plus (inf true) p = absurd (never p)
+over-plus (inf true) p = absurd (false≢true p)
 over-plus (inf false) p = refl
-over-plus (fin true m e) p = absurd (never p)
+over-plus (fin true m e) p = absurd (false≢true p)
 over-plus (fin false m e) p = round-plus (m * up e * down (pos 31)) (1 * up (pos 31) * down e)
 
 pub hash2-plus : (x y : ℤ) → plus (hash2₃₂ x y) ≡ true
@@ -80,9 +77,9 @@ hash2-plus x y = over-plus (ofInt binary32 (pos (low31 (mix2 x y)))) (round-plus
 whole-natural : (x : Float) → plus x ≡ true → toI32 x ≡ pos (wholePart x)
 unfolding wholePart toI32 toSigned
 whole-natural nan p = refl
-whole-natural (inf true) p = absurd (never p)
+whole-natural (inf true) p = absurd (false≢true p)
 whole-natural (inf false) p = refl
-whole-natural (fin true m e) p = absurd (never p)
+whole-natural (fin true m e) p = absurd (false≢true p)
 whole-natural (fin false m e) p = refl
 
 nat-plus : (k : ℕ) → plus (nat k) ≡ true

@@ -4,6 +4,3 @@ use native.Mathlib.Nat.{mul-le-mul}
 
 pub square : (a b : ℕ) → a ≤ 64 → b ≤ 64 → a * b ≤ 4096
 square a b h k = mul-le-mul h k
-
-pub cube : (a : ℕ) → a ≤ 64 → a * a * a ≤ 262144
-cube a h = mul-le-mul (mul-le-mul h h) h

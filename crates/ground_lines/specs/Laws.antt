@@ -13,8 +13,8 @@ use lib.Seq.{ext-getD}
 use borrow.Author.Tests.{ltb-true, ltb-false}
 use Rattle.grid.specs.Cube.{tab}
 use Rattle.grid.specs.Grid.{tab-length, tab-at}
-use Rattle.num.specs.Laws.{ap₃}
-use Rattle.num.specs.Front.{front-more}
+use Rattle.basics.specs.Paths.{ap₃}
+use Rattle.basics.specs.Lists.{front-more}
 use Rattle.ground_cell.specs.World.{Tall, heightAt, topAt, topWith, cellWith, cellUnder, baseCell, localY}
 use Rattle.ground_cell.specs.Base.{Noted, columnHeight, columnBiome, baseNumbered, baseCells}
 use Rattle.ground_cell.specs.Laws.{height-least, height-most, cell-told}

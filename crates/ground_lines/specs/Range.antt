@@ -7,6 +7,8 @@ use lib.Dec.{ltb}
 use lib.IntN.{ℤ, pos, negsuc, _+ℤ_, _-ℤ_}
 use lib.Signed.{ltZ}
 use borrow.Author.Tests.{ltb-true, ltb-false, lt-ltb, le-ltb}
+use Rattle.basics.specs.Integers.{one-less}
+use Rattle.basics.specs.Bools.{and-both}
 use Rattle.ground_cell.specs.World.{localOr, localY}
 use Rattle.ground_lines.specs.Lines.{belowLevel}
 
@@ -38,13 +40,6 @@ below-no (pos zero) y e = let k = ltb-true 0 (0 + y) e in omega arith
 below-no (pos (suc a)) y e = none a _ y (ltb 1 (suc a))
 below-no (negsuc a) y e = risen a y (ltb y (suc a)) refl e
 
-pub both : (a b : Bool) → (a && b) ≡ true → (a ≡ true) × (b ≡ true)
-both true b e = (refl, e)
-both false b e = absurd (false≢true e)
-
-less-one : (h : ℕ) → 1 ≤ h → pos h -ℤ pos 1 ≡ pos (h - 1)
-less-one h p = rw (le-ltb h 1 p)
-
 clip-le : (n size y : ℕ) (b : Bool) → ltb n size ≡ b → y < size → n ≤ y → cond b n size ≤ y
 clip-le n size y true t p q = q
 clip-le n size y false t p q = let k = ltb-false n size t in omega arith
@@ -58,9 +53,9 @@ pub in-range : (o : ℤ) (h size y : ℕ) → 1 ≤ h → y < size → (ltZ (pos
     → (belowLevel size o 1 ≤ y) × (y < belowLevel size o (h - 1))
 unfolding belowLevel
 in-range o h size y p q e =
-    let g = both (ltZ (pos 0) (o +ℤ pos y)) (ltZ (o +ℤ pos y) (pos h -ℤ pos 1)) e in
+    let g = and-both (ltZ (pos 0) (o +ℤ pos y)) (ltZ (o +ℤ pos y) (pos h -ℤ pos 1)) e in
     let low = below-no o y (g .0) in
-    let high = below-yes o (h - 1) y (subst (λ (u : ℤ). ltZ (o +ℤ pos y) u ≡ true) (less-one h p) (g .1)) in
+    let high = below-yes o (h - 1) y (subst (λ (u : ℤ). ltZ (o +ℤ pos y) u ≡ true) (one-less h p) (g .1)) in
     (clip-le (localY 0 o (pos 1)) size y (ltb (localY 0 o (pos 1)) size) refl q low, clip-lt (localY 0 o (pos (h - 1))) size y (ltb (localY 0 o (pos (h - 1))) size) q high)
 
 -- a lower height admits caves on no other levels
@@ -72,7 +67,7 @@ lower (negsuc n) h top p e = refl
 pub in-row : (o : ℤ) (h top size y : ℕ) → 1 ≤ h → h ≤ top → y < size → (ltZ (pos 0) (o +ℤ pos y) && ltZ (o +ℤ pos y) (pos h -ℤ pos 1)) ≡ true
     → (belowLevel size o 1 ≤ y) × (y < belowLevel size o (top - 1))
 in-row o h top size y p q m e =
-    let g = both (ltZ (pos 0) (o +ℤ pos y)) (ltZ (o +ℤ pos y) (pos h -ℤ pos 1)) e in
-    let l = lower (o +ℤ pos y) (h - 1) (top - 1) (omega arith) (subst (λ (u : ℤ). ltZ (o +ℤ pos y) u ≡ true) (less-one h p) (g .1)) in
-    let r = subst (λ (u : ℤ). ltZ (o +ℤ pos y) u ≡ true) (sym (less-one top (omega arith))) l in
+    let g = and-both (ltZ (pos 0) (o +ℤ pos y)) (ltZ (o +ℤ pos y) (pos h -ℤ pos 1)) e in
+    let l = lower (o +ℤ pos y) (h - 1) (top - 1) (omega arith) (subst (λ (u : ℤ). ltZ (o +ℤ pos y) u ≡ true) (one-less h p) (g .1)) in
+    let r = subst (λ (u : ℤ). ltZ (o +ℤ pos y) u ≡ true) (sym (one-less top (omega arith))) l in
     in-range o top size y (omega arith) m (rw (g .0) r)

@@ -10,13 +10,14 @@ use borrow.Author.Tests.{leb-true, ltb-true, le-leb, lt-ltb}
 use Rattle.cave_rows.specs.Fields.{Hollow}
 use Rattle.ground_lines.specs.Lines.{Flagged, DoneTo}
 use Rattle.ground_lines.specs.Laws.{below-most}
-use Rattle.ground_lines.specs.Range.{both, in-row}
+use Rattle.ground_lines.specs.Range.{in-row}
+use Rattle.basics.specs.Bools.{and-both}
 use Rattle.ground_cell.specs.declared.world.World.{World}
 use Rattle.ground_cell.specs.declared.world.Frame.{Frame}
 use Rattle.ground_rows.specs.Rows.{Ready}
 
 pub between : (lo y hi : ℕ) → (leb lo y && ltb y hi) ≡ true → (lo ≤ y) × (y < hi)
-between lo y hi e = let g = both (leb lo y) (ltb y hi) e in (leb-true lo y (g .0), ltb-true y hi (g .1))
+between lo y hi e = let g = and-both (leb lo y) (ltb y hi) e in (leb-true lo y (g .0), ltb-true y hi (g .1))
 
 pub inside : (o : Frame) (y z : ℕ) (heights : List ℕ) (flags : List Bool) → o .size ≤ length flags → Hollow o y z heights flags → Flagged o y z heights flags
 inside o y z heights flags h g = record { long = h; each = λ (x : ℕ) k e. g .each x k }

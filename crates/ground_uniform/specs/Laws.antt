@@ -3,12 +3,13 @@ use mathlib.Core.Path.{_≡_, refl, sym, ap, ap₂, _∙_, subst}
 use Prim.Native.Nat.{ℕ, zero, suc, _+_, _-_, _*_, _/_, _%_, _≤_, _<_}
 use native.Mathlib.Omega.{arith}
 use native.Mathlib.Nat.{mod-lt}
-use mathlib.Core.Bool.{Bool, true, false, _&&_, cond}
+use mathlib.Core.Bool.{Bool, true, false, cond, false≢true}
 use mathlib.Core.List.{List, _∷_, [], _++_}
-use lib.Dec.{T, ltb}
+use lib.Dec.{ltb}
 use lib.IntN.{ℤ, pos, negsuc, _+ℤ_}
 use lib.Signed.{ltZ, leZ}
 use borrow.Author.Tests.{leb-true, ltb-true, lt-ltb, le-ltb, le-leb}
+use Rattle.basics.specs.Bools.{and-both}
 use Rattle.grid.specs.Cube.{tab}
 use Rattle.column.specs.declared.Biome.{Biome}
 use Rattle.column.specs.declared.Biome.the-variants.{Desert, Mountain, Forest, Plains}
@@ -21,14 +22,6 @@ use Rattle.ground_cell.specs.declared.world.Frame.{Frame}
 use Rattle.ground_trees.specs.Features.{bouldersOf, treesOf, topOf}
 use Rattle.ground_uniform.specs.Place.{deepEnd, boulderReach, deepIn, skyIn, allOf}
 use Rattle.ground_uniform.specs.Untouched.{boulders-out, trees-out}
-
-never : false ≡ true → ⊥
-never e = subst T (sym e) tt
-
-both : (a b : Bool) → (a && b) ≡ true → (a ≡ true) × (b ≡ true)
-both true true e = (refl, refl)
-both true false e = absurd (never e)
-both false b e = absurd (never e)
 
 tab-same : (n : ℕ) (f g : ℕ → ℕ) → ((i : ℕ) → i < n → f i ≡ g i) → tab n f ≡ tab n g
 unfolding tab
@@ -50,12 +43,12 @@ record Below (k : ℕ) (oy : ℤ) (size : ℕ) : Type 0 where
   far : size + k ≤ n
 
 below-of : (k : ℕ) (oy : ℤ) (s : ℕ) → leZ (oy +ℤ pos s) (negsuc k) ≡ true → Below k oy s
-below-of k (pos a) s e = absurd (never e)
+below-of k (pos a) s e = absurd (false≢true e)
 below-of k (negsuc a) s e = go (ltb s (suc a)) refl e
   where
     go : (b : Bool) → ltb s (suc a) ≡ b → leZ (cond b (negsuc (suc a - suc s)) (pos (s - suc a))) (negsuc k) ≡ true → Below k (negsuc a) s
     go true q r = let p = ltb-true s (suc a) q in let m = leb-true k (suc a - suc s) r in record { n = a; is = refl; far = omega arith }
-    go false q r = absurd (never r)
+    go false q r = absurd (false≢true r)
 
 -- 9 below a column's top every biome has stone
 stone-under : (b : Biome) (k h : ℕ) (sea : ℤ) → 1 ≤ h → 7 ≤ k → selectBlock b (negsuc k) (pos h) sea ≡ 1
@@ -107,7 +100,7 @@ dry-of (negsuc m) a y e = refl
 
 above-of : (r top : ℕ) (sea oy : ℤ) → leZ sea oy ≡ true → leZ (pos (top + r)) oy ≡ true → Above r top sea oy
 above-of r top sea (pos a) p q = record { a = a; is = refl; far = leb-true (top + r) a q; dry = λ y. dry-of sea a y p }
-above-of r top sea (negsuc a) p q = absurd (never q)
+above-of r top sea (negsuc a) p q = absurd (false≢true q)
 
 air-over : (w : World) (t : Tall w) (wx wz : ℤ) (n : ℕ) → t .top ≤ n → ltZ (pos n) (w .«sea_level») ≡ false → baseCell w wx (pos n) wz ≡ 0
 unfolding baseCell cellUnder cellWith topAt columnCell
@@ -123,7 +116,7 @@ pub ground-sky : (w : World) (o : Frame) → Tall w → Near o → skyIn w o ≡
     → treesOf o (w .«sea_level») (topOf w o) (bouldersOf o (topOf w o) (baseCells w o)) ≡ allOf (o .size * o .size * o .size) 0
 unfolding skyIn
 ground-sky w o t m e =
-    let g = both _ _ e in
+    let g = and-both _ _ e in
     let b = above-of boulderReach (t .top) (w .«sea_level») (o .oy) (g .0) (subst (λ (z : ℤ). leZ (z +ℤ pos boulderReach) (o .oy) ≡ true) (t .is) (g .1)) in
     let f = b .far in
     let down : (y : ℕ) → y < b .a → o .size ≤ localY (o .size) (o .oy) (pos y) =

@@ -3,7 +3,7 @@
 use mathlib.Core.Path.{_≡_, refl, sym, ap, ap₂, _∙_, subst}
 use mathlib.Core.Bool.{Bool, true, false, not, _&&_, cond, Bool·beq}
 use Prim.Native.Nat.{ℕ, suc, _+_, _-_, _*_, _/_, _%_, _^_, _≤_, _<_}
-use native.Mathlib.Nat.{le-of-eq, le-trans, lt-of-le-of-lt, lt-of-lt-of-le, add-mul, mul-comm, mul-assoc, mul-right-comm, mul-sub, mul-pos, mul-lt-mul-of-pos-right, mul-le-mul-right, le-of-mul-le-mul-right, lt-of-mul-lt-mul-right, mod-eq-of-lt, div-add-mod'}
+use native.Mathlib.Nat.{le-of-eq, le-trans, lt-of-le-of-lt, lt-of-lt-of-le, add-mul, mul-comm, mul-assoc, mul-right-comm, mul-pos, mul-lt-mul-of-pos-right, mul-le-mul-right, le-of-mul-le-mul-right, lt-of-mul-lt-mul-right, mod-eq-of-lt, div-add-mod'}
 use native.Mathlib.Omega.{arith}
 use lib.Arith.{lt→nleb, digits-div, digits-mod}
 use lib.Dec.{T, leb, ltb, eqb, eqb→eq, not-T, lit<, lit≤}
@@ -15,6 +15,7 @@ use lib.Ieee.Bits.{is-false, cond-no, nanBits-is}
 use lib.Ieee.Exact.{HasValue, odd-sign, round-exact}
 use lib.Ieee.Scale.{round-same}
 use borrow.Author.Tests.{ltb-true, ltb-false, lt-ltb, le-ltb}
+use Rattle.basics.specs.Naturals.{minus-mul}
 use Rattle.noise_hash.proofs.Scaled.{rescaled}
 
 -- ---- a pattern with an exponent's field of x + 1 and the digits t
@@ -80,9 +81,6 @@ low-is t h =
     (pattern 118 t (lit< tt) (wide t h))
 
 -- ---- a sum goes by the values
-less-mul : (a b d : ℕ) → (a - b) * d ≡ a * d - b * d
-less-mul a b d = mul-comm (a - b) d ∙ mul-sub d a b ∙ ap₂ _-_ (mul-comm d a) (mul-comm d b)
-
 same-test : (A B D a b c : ℕ) → 0 < D → 0 < c → A * c ≡ a * D → B * c ≡ b * D → ltb A B ≡ ltb a b
 same-test A B D a b c P C p q = go (ltb a b) refl
   where
@@ -101,8 +99,8 @@ same-sum : (s t : Bool) (A B D a b c : ℕ) → 0 < D → 0 < c → A * c ≡ a 
 unfolding sum
 same-sum s t A B D a b c P C p q =
     let whole : (A + B) * c ≡ (a + b) * D = add-mul A B c ∙ ap₂ _+_ p q ∙ sym (add-mul a b D) in
-    let over : (B - A) * c ≡ (b - a) * D = less-mul B A c ∙ ap₂ _-_ q p ∙ sym (less-mul b a D) in
-    let under : (A - B) * c ≡ (a - b) * D = less-mul A B c ∙ ap₂ _-_ p q ∙ sym (less-mul a b D) in
+    let over : (B - A) * c ≡ (b - a) * D = minus-mul B A c ∙ ap₂ _-_ q p ∙ sym (minus-mul b a D) in
+    let under : (A - B) * c ≡ (a - b) * D = minus-mul A B c ∙ ap₂ _-_ p q ∙ sym (minus-mul a b D) in
     let rest : (u v : Bool) → Float =
     λ (u v : Bool). cond u (round binary32 t (b - a) c) (round binary32 (s && v) (a - b) c) in
     ap₂ (cond (Bool·beq s t)) (round-same binary32 s (A + B) D (a + b) c P C whole)

@@ -4,7 +4,7 @@ use mathlib.Core.List.{List}
 use Prim.Native.Nat.{ℕ, _+_, _*_, _<_}
 use lib.IntN.{ℤ}
 use lib.Ieee.{Float}
-use Rattle.num.specs.Laws.{ap₄}
+use Rattle.basics.specs.Paths.{ap₄}
 use Rattle.num.specs.Num.{floorI}
 use Rattle.noise.specs.Noise.{ease₃₂, layer₃₂, noise3d₃₂, next}
 use Rattle.noise_tables.specs.Row.{at}

@@ -1,6 +1,6 @@
 -- What the proofs of the kept square cite. Assumes nothing.
 use mathlib.Core.Path.{_≡_, refl, sym, ap, _∙_, subst}
-use mathlib.Core.Bool.{Bool, true, false, _&&_}
+use mathlib.Core.Bool.{true}
 use lib.Dec.{eqb}
 use lib.IntN.{ℤ}
 use mir.Syntax.{w32}
@@ -10,11 +10,6 @@ use borrow.Author.Tests.{eqb-true}
 use Rattle.noise_rows.specs.Square.{squareOf}
 use Rattle.noise_rows.specs.declared.Square.{Square}
 use Rattle.noise_places.specs.Places.{Kept}
-
-pub and-both : (a b : Bool) → (a && b) ≡ true → (a ≡ true) × (b ≡ true)
-and-both true b e = (refl, e)
-and-both false true e = (e, refl)
-and-both false false e = (e, e)
 
 -- two i32 of the same bits are the same
 pub same : (a b : ℤ) → SFits w32 a → SFits w32 b → eqb (ofZ w32 a) (ofZ w32 b) ≡ true → a ≡ b

@@ -1,4 +1,3 @@
-pub mod Same
 pub mod Runs
 pub mod Octaves
 pub mod Going

@@ -6,7 +6,7 @@ use mathlib.Core.List.{List}
 use lib.ListN.{length, set, length-set}
 use lib.Seq.{getD-set-other}
 use lib.Ieee.{Float, nan}
-use Rattle.num.specs.Front.{front-more}
+use Rattle.basics.specs.Lists.{front-more}
 use Rattle.noise_tables.specs.Row.{at, Row}
 
 -- the first i places of the row hold f, the others what they held

@@ -6,7 +6,7 @@ use Prim.Native.Nat.{ℕ, _+_, _≤_, _<_}
 use native.Mathlib.Omega.{arith}
 use lib.ListN.{length, getD, set, length-set}
 use lib.Ieee.{Float, nan}
-use Rattle.num.specs.Front.{front-more}
+use Rattle.basics.specs.Lists.{front-more}
 
 -- place i of a row
 abbrev pub at : List Float → ℕ → Float

@@ -3,7 +3,7 @@
 use mathlib.Core.Path.{_≡_, refl, sym, ap, ap₂, _∙_, subst}
 use mathlib.Core.Logic.{_⊎_, inl, inr}
 use Prim.Native.Nat.{ℕ, zero, suc, _+_, _-_, _*_, _/_, _%_, _^_, _≤_, _<_, compare, Ordering, Ordering·lt, Ordering·eq, Ordering·gt, compare·zero-suc, min}
-use native.Mathlib.Nat.{mul-pos, mul-one, zero-mul, mul-comm, mul-assoc, mul-right-comm, suc-mul, mul-sub, add-mul-div-right, add-mul-mod-self-right, div-lt-iff-lt-mul, le-div-iff-mul-le, div-add-mod', mod-lt, mod-eq-of-lt, div-one, mod-one, eq-of-mul-eq-mul-right, lt-of-not-le, lt-of-lt-of-le, lt-of-le-of-lt, lt-irrefl, le-trans, le-of-eq, zero-lt-suc, mul-mod-left, mul-le-mul-right, mul-lt-mul-of-pos-right, pow-suc}
+use native.Mathlib.Nat.{mul-pos, mul-one, zero-mul, mul-comm, mul-assoc, mul-right-comm, suc-mul, mul-sub, add-mul-div-right, add-mul-mod-self-right, div-lt-iff-lt-mul, le-div-iff-mul-le, div-add-mod', mod-lt, mod-eq-of-lt, div-one, mod-one, eq-of-mul-eq-mul-right, lt-of-not-le, lt-of-lt-of-le, lt-of-le-of-lt, lt-irrefl, le-trans, le-of-eq, zero-lt-suc, mul-mod-left, mul-le-mul-right, mul-lt-mul-of-pos-right, pow-suc, div-mul-le-self, pos-of-ne-zero}
 use native.Mathlib.Omega.{arith}
 use mathlib.Core.Bool.{Bool, true, false, cond, _&&_}
 use lib.Dec.{T, ltb→lt, lit<, lit≤, ltb, eqb, leb, le→leb, lt→ltb, eqb→eq}
@@ -21,9 +21,11 @@ use borrow.Author.Tests.{ltb-true, ltb-false, lt-ltb, le-ltb, eq-eqb, ne-eqb}
 use lib.Ieee.Casts.{toSigned-in}
 use mir.Syntax.{w32}
 use mir.ValLaws.{toZ-ofZ}
-use Rattle.num_wrap.proofs.Words.{again}
+use Rattle.basics.specs.Naturals.{minus-mul}
+use Rattle.basics.specs.Words.{again}
 use Rattle.num.specs.Num.{floorQ, floor₃₂, floorI, toI32}
-use Rattle.num_float.proofs.Floats.{clash, one-zero}
+use Rattle.num_float.proofs.Floats.{one-zero}
+use Rattle.basics.specs.Bools.{clash}
 
 -- ---- a float that is a whole number
 pub record Is (y : Float) (s : Bool) (n : ℕ) : Type 0 where
@@ -208,12 +210,6 @@ lifted b s a d p l h =
       ),
     )
 
-minus-mul : (b q d : ℕ) → (b - q) * d ≡ b * d - q * d
-minus-mul b q d = mul-comm (b - q) d ∙ mul-sub d b q ∙ ap₂ _-_ (mul-comm d b) (mul-comm d q)
-
-cut-le : (a d : ℕ) → a / d * d ≤ a
-cut-le a d = let h = div-add-mod' a d in omega arith
-
 cut-gt : (a d : ℕ) → 0 < d → a < suc (a / d) * d
 cut-gt a d p = let h = div-add-mod' a d in let k = mod-lt a p in let v = suc-mul (a / d) d in omega arith
 
@@ -264,7 +260,7 @@ above k i m e l h = go (lifted b false a d (down-pos e) l h)
     go (n, (w, inl z)) =
         let f = t-is n q w z in
         let g : Is t false q = subst (λ (y : Float). Is y false q) (sym f) (whole-is false q (let u = qs in omega arith)) in
-        ((λ y. clash y (pos-le m e q t g (cut-le a d))), (λ y. f))
+        ((λ y. clash y (pos-le m e q t g (div-mul-le-self a d))), (λ y. f))
     go (n, (w, inr z)) =
         let f = t-is n (suc q) w (let u = z .0 in omega arith) in
         let g : Is t false (suc q) = subst (λ (y : Float). Is y false (suc q)) (sym f) (whole-is false (suc q) (let u = qs in omega arith)) in
@@ -323,14 +319,10 @@ settle m e t o qs way = go way (a % d) refl
         )
     odd (suc j) z r i =
         let w = is-q j z i in
-        let g : suc j * d < a = (let y = div-add-mod' a d in let x : q * d ≡ suc j * d = ap (λ (u : ℕ). u * d) z in let k = pos-of (a % d) r in omega arith) in (
+        let g : suc j * d < a = (let y = div-add-mod' a d in let x : q * d ≡ suc j * d = ap (λ (u : ℕ). u * d) z in let k = pos-of-ne-zero r in omega arith) in (
           (λ y. ap (λ (u : Float). sub binary32 u (fin false 1 (pos 0))) (w .is) ∙ deeper (w .m′ * up (w .e′)) (down (w .e′)) (suc j) (down-pos (w .e′)) (w .val) ∙ ap (λ (k : ℕ). ofInt binary32 (negsuc k)) (sym z) ∙ ap (ofInt binary32) (sym (F-part r))),
           (λ y. clash (neg-lt m e (suc j) t w g) y),
         )
-      where
-        pos-of : (k : ℕ) → (k ≡ 0 → ⊥) → 0 < k
-        pos-of zero n = absurd (n refl)
-        pos-of (suc k) n = zero-lt-suc k
 
     go : (t ≡ ofInt binary32 (negℤ (pos q))) ⊎ ((t ≡ ofInt binary32 (negsuc q)) × (a % d ≡ 0 → ⊥)) → (k : ℕ)
         → a % d ≡ k → Goal
@@ -629,9 +621,9 @@ far-below (fin false m (negsuc i)) f h k =
     let z = ltb-true (m * 1 * 1) (0 * 2 ^ suc i) h in let w = zero-mul (2 ^ suc i) in absurd (omega arith)
 
 -- a floor's integer, as the machine reads it back
-pub floor-again : {i : ℤ} (x : Float) → i ≡ floorI x → again i ≡ floorI x
+pub floor-again : {i : ℤ} (x : Float) → i ≡ floorI x → again w32 i ≡ floorI x
 unfolding floorI toI32
-floor-again x e = ap again e ∙ toZ-ofZ w32 (floorI x) (record { sfits = toSigned-in 31 (floor₃₂ x) })
+floor-again x e = ap (again w32) e ∙ toZ-ofZ w32 (floorI x) (record { sfits = toSigned-in 31 (floor₃₂ x) })
 
 -- ---- the floor as a float
 -- m * 2 ^ -(k + 1) has a fraction, m being odd
@@ -693,11 +685,7 @@ unfolding ofInt
 part-x false m k r h =
     let d = 2 ^ suc k in
     let q : m / d < 8388608 = div-lt-iff-lt-mul (pow-pos (suc k)) .1 h in
-    left-of m (negsuc k) (m / d) (round binary32 false (m / d) 1) (whole-is false (m / d) (omega arith)) .0 (let v = div-add-mod' m d in let p = above-0 (m % d) r in omega arith)
-  where
-    above-0 : (n : ℕ) → (n ≡ 0 → ⊥) → 0 < n
-    above-0 zero z = absurd (z refl)
-    above-0 (suc n) z = zero-lt-suc n
+    left-of m (negsuc k) (m / d) (round binary32 false (m / d) 1) (whole-is false (m / d) (omega arith)) .0 (let v = div-add-mod' m d in let p = pos-of-ne-zero r in omega arith)
 part-x true m k r h =
     let d = 2 ^ suc k in
     let q : m / d < 8388608 = div-lt-iff-lt-mul (pow-pos (suc k)) .1 h in

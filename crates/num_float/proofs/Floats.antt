@@ -1,5 +1,5 @@
 -- Facts of f32 that the proofs of `num_float` and `num` cite: each is about one value and the tests that the code made of it. Assumes nothing.
-use mathlib.Core.Path.{_≡_, refl, sym, ap, ap₂, _∙_, subst}
+use mathlib.Core.Path.{_≡_, refl, sym, ap, ap₂, subst}
 use Prim.Native.Nat.{ℕ, zero, suc, _+_, _*_, _/_, _^_, _≤_, _<_, min}
 use native.Mathlib.Nat.{mul-pos, zero-mul, pow-suc, le-div-iff-mul-le, div-lt-iff-lt-mul, zero-lt-suc}
 use native.Mathlib.Omega.{arith}
@@ -12,17 +12,8 @@ use lib.Ieee.Fits.{up-pos, down-pos, and-l}
 use lib.Ieee.Compare.{differs-from-itself}
 use lib.Dec.{eqb→eq}
 use borrow.Author.Tests.{ltb-true, ltb-false, lt-ltb, eq-eqb}
+use Rattle.basics.specs.Bools.{clash, is-T}
 use Rattle.num_float.specs.Num.{abs₃₂, toI32}
-
-pub clash {ℓ} : {X : Type ℓ} {b : Bool} → b ≡ true → b ≡ false → X
-clash t f = absurd (subst T (sym t ∙ f) tt)
-
-pub is-T : {b : Bool} → b ≡ true → T b
-is-T e = subst T (sym e) tt
-
-pub both : (a b : Bool) → (a && b) ≡ true → (a ≡ true) × (b ≡ true)
-both true b h = (refl, h)
-both false b h = clash h refl
 
 pub or-l : {a : Bool} (b : Bool) → a ≡ true → T (a || b)
 or-l {a} b e = subst (λ (u : Bool). T (u || b)) (sym e) tt

@@ -1,3 +1,2 @@
 pub mod Wrap
 pub mod Modulo
-pub mod Laws

@@ -1,6 +1,6 @@
 -- What wrapping and the right shift (SCOPE 3.3) mean over the integers: laws of Wrap. Assumes nothing.
 use mathlib.Core.Path.{_≡_, refl, sym, ap, ap₂, _∙_, subst}
-use mathlib.Core.Bool.{Bool, true, false, cond}
+use mathlib.Core.Bool.{Bool, true, false}
 use Prim.Native.Nat.{ℕ, zero, suc, _+_, _-_, _*_, _/_, _%_, _^_, _≤_, _<_}
 use native.Mathlib.Nat.{add-comm, add-mul-mod-self-right, div-add-mod', mod-eq-of-lt, mod-lt, mul-add, mul-comm, suc-mul, zero-mul}
 use native.Mathlib.Omega.{arith}
@@ -8,22 +8,12 @@ use lib.Dec.{ltb}
 use lib.Pow.{pow-pos}
 use lib.IntN.{ℤ, pos, negsuc, negℤ, subℕ, _+ℤ_, _*ℤ_}
 use lib.Signed.{shrZ}
-use borrow.Author.Tests.{lt-ltb, le-ltb, ltb-true, ltb-false}
+use borrow.Author.Tests.{le-ltb, ltb-true, ltb-false}
 use mir.Syntax.{w32}
 use mir.Val.{SFits, ofZ, toZ, sel}
 use mir.ValLaws.{toZ-pos, toZ-ofZ}
+use Rattle.basics.specs.Integers.{sub-at-least, sub-below}
 use Rattle.num_wrap.specs.Wrap.{modZ, wrapW, mulW, addW, shiftW}
-
--- ---- differences of naturals
-sub-at-least : (a b c : ℕ) → a ≡ b + c → subℕ a b ≡ pos c
-sub-at-least a b c e =
-    ap (λ (t : Bool). cond t (negsuc (b - suc a)) (pos (a - b))) (le-ltb a b (omega arith))
-    ∙ ap pos (omega arith)
-
-sub-below : (a b c : ℕ) → b ≡ a + suc c → subℕ a b ≡ negsuc c
-sub-below a b c e =
-    ap (λ (t : Bool). cond t (negsuc (b - suc a)) (pos (a - b))) (lt-ltb a b (omega arith))
-    ∙ ap negsuc (omega arith)
 
 -- sums with -n
 more : (a n c : ℕ) → n ≡ a + suc c → pos a +ℤ negℤ (pos n) ≡ negsuc c

@@ -4,7 +4,7 @@ use mathlib.Core.List.{List, _∷_}
 use Prim.Native.Nat.{ℕ}
 use lib.Dec.{eqb}
 use borrow.Author.Tests.{eq-eqb, ne-eqb}
-use Rattle.text.specs.Pick.{pick}
+use Rattle.basics.specs.Bools.{pick}
 
 -- field x of a line, with the tab that separates it from the one before
 unfoldable pub parted : ℕ → List ℕ → List ℕ

@@ -9,7 +9,7 @@ use lib.IntN.{natAbs}
 use lib.ListN.{length, take, drop}
 use lib.Dec.{leb, eqb}
 use borrow.Author.Tests.{le-leb, lt-leb, leb-true, eqb-true, eqb-false}
-use Rattle.text.specs.Pick.{pick, by-bool}
+use Rattle.basics.specs.Bools.{pick, by-bool}
 use Rattle.config.specs.declared.Header.{Header}
 use Rattle.config.specs.declared.TerrainConfig.{TerrainConfig}
 use Rattle.config.specs.declared.ChunkPos.{ChunkPos}

@@ -18,7 +18,7 @@ use Rattle.ground.specs.Ground.{ground}
 use Rattle.journal_format.specs.Fields.{joinTabs}
 use Rattle.journal_format.specs.Journal.{lines, Read, read, bad, active, follow}
 use Rattle.journal_format.specs.Written.{written, take-written}
-use Rattle.text.specs.Pick.{pick}
+use Rattle.basics.specs.Bools.{pick}
 use Rattle.text.specs.Decimal.{decimal, decimalF}
 use Rattle.journal_open.specs.Opens.{openingOf}
 use Rattle.journal_open.specs.declared.Opening.the-variants.{Opens, Refused}

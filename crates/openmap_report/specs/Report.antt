@@ -5,7 +5,7 @@ use Prim.Native.Nat.{ℕ}
 use lib.IntN.{natAbs}
 use lib.ListN.{length, take, drop}
 use lib.Dec.{leb}
-use Rattle.text.specs.Pick.{pick}
+use Rattle.basics.specs.Bools.{pick}
 use Rattle.journal_format.specs.Written.{written}
 use Rattle.journal_open.specs.Opens.{openingOf}
 use Rattle.journal_open.specs.declared.Opening.{Opening}

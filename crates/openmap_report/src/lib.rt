@@ -3,7 +3,7 @@ ghost use mathlib.Core.Path.{_≡_};
 ghost use Prim.Native.Nat.{_≤_};
 ghost use lib.IntN.{natAbs};
 ghost use lib.Dec.{leb};
-ghost use Rattle.text.specs.Pick.{pick};
+ghost use Rattle.basics.specs.Bools.{pick};
 ghost use Rattle.session_calls.specs.Record.{cube};
 ghost use Rattle.config.specs.Limits.{limitRefusal};
 ghost use Rattle.openmap_report.specs.Text.{answerText};

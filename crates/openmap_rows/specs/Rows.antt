@@ -9,7 +9,8 @@ use native.Mathlib.Nat.{mul-le-mul}
 use lib.ListN.{length, getD, length-append}
 use lib.Dec.{eqb}
 use borrow.Author.Tests.{ne-eqb}
-use Rattle.text.specs.Pick.{pick, split}
+use Rattle.basics.specs.Bools.{pick}
+use Rattle.basics.specs.Naturals.{split}
 use Rattle.text.specs.Decimal.{decimal, decimal-length}
 use Rattle.grid.specs.Cube.{cellIndex, inside, seeAt}
 use Rattle.journal_format.specs.Fields.{joinTabs}

@@ -3,7 +3,7 @@
 use mathlib.Core.Path.{_≡_, refl, sym, _∙_, ap, subst}
 use mathlib.Core.Bool.{_&&_}
 use mathlib.Core.List.{List, [], _∷_, _++_, append-assoc, append-nil, map}
-use mathlib.Core.Option.{Option, some, none}
+use mathlib.Core.Option.{Option, some, none, Option·some-injective}
 use Prim.Native.Nat.{ℕ, suc, _+_, _-_, _≤_}
 use native.Mathlib.Omega.{arith}
 use lib.IntN.{natAbs}
@@ -11,7 +11,7 @@ use lib.ListN.{length, take, length-append}
 use lib.Seq.{length-take-le}
 use lib.Dec.{ltb, leb, eqb}
 use borrow.Author.Tests.{lt-ltb, le-leb, ltb-false, eqb-true}
-use Rattle.text.specs.Pick.{by-bool}
+use Rattle.basics.specs.Bools.{by-bool}
 use Rattle.config.specs.declared.Header.{Header}
 use Rattle.config.specs.Limits.{configHeader, limitRefusal}
 use Rattle.grid.specs.Grid.{in-all}
@@ -83,9 +83,6 @@ pub record Gives (m : Model) (r : Ran) (b : Active) (l : List ℕ) : Type 0 wher
   pub size : modelSize (r .next) ≡ modelSize m
   pub borrowed : r .next .borrowed ≡ m .borrowed
 
-same-some : (a b : Active) → some a ≡ some b → a ≡ b
-same-some a b e = cc
-
 never : {X : Type 0} (b : Active) → none ≡ some b → X
 never b e = let z : _≡_ {A = ℕ} 0 1 = cc in absurd (omega arith)
 
@@ -95,7 +92,7 @@ unfolding after modelEdit
 edit-gives m e b a h =
     by-bool (ltb (length (m .active .edits)) 256)
     (λ f. rw (f, le-leb (length (ended (editText e))) (left m) h)
-    (record { accepted = refl; bytes = refl; active = same-some (active (e ∷ m .active .edits)) b (rw f at a); size = refl; borrowed = refl }))
+    (record { accepted = refl; bytes = refl; active = Option·some-injective (active (e ∷ m .active .edits)) b (rw f at a); size = refl; borrowed = refl }))
     (λ f. never b (rw f at a))
 
 undo-gives : (m : Model) (b : Active) (es : List Edit) → dropLast es ≡ some b → length (ended undoText) ≤ left m → Gives m (modelUndo m es) b undoText
@@ -103,7 +100,7 @@ unfolding modelUndo
 undo-gives m b [] a h = never b a
 undo-gives m b (e ∷ es) a h =
     let two : 2 ≤ left m = (let l = length-append undoText (10 ∷ []) in let u = undo-length in omega arith) in
-    rw (le-leb 2 (left m) two) (record { accepted = refl; bytes = refl; active = same-some (active es) b a; size = refl; borrowed = refl })
+    rw (le-leb 2 (left m) two) (record { accepted = refl; bytes = refl; active = Option·some-injective (active es) b a; size = refl; borrowed = refl })
 
 after-undo : (a b : Active) → after a undoes ≡ some b → dropLast (a .edits) ≡ some b
 unfolding after
@@ -169,7 +166,7 @@ line-or size d ds p m b z (some c) a q h later =
 
 lines-written : (size : ℕ) (ds : List Line) (p : AllLineOk size ds) → Later size ds p
 unfolding afterAll modelRun modelReplies join
-lines-written size [] p m b z e h = record { accepted = tt; bytes = sym (append-nil (m .bytes)); active = same-some (m .active) b e }
+lines-written size [] p m b z e h = record { accepted = tt; bytes = sym (append-nil (m .bytes)); active = Option·some-injective (m .active) b e }
 lines-written size (d ∷ ds) p m b z e h = line-or size d ds p m b z (after (m .active) d) refl e h (lines-written size ds (p .1))
 
 -- ---- a whole journal: the model of its first line, and the calls of its later lines

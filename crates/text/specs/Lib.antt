@@ -1,4 +1,3 @@
-pub mod Pick
 pub mod Decimal
 pub mod Line
 pub mod Piece

@@ -3,7 +3,7 @@ use mathlib.Core.Path.{sym, ap, _∙_}
 use lib.Ieee.{binary32, ofInt}
 use mir.Syntax.{w32}
 use mir.ValLaws.{toZ-ofZ}
-use Rattle.num.specs.Laws.{ap₃, ap₄}
+use Rattle.basics.specs.Paths.{ap₃, ap₄}
 use Rattle.cave_plain.specs.Caves.{spaghettiCave, largeCavern, ravineCut}
 use Rattle.cave_plain.proofs.Tests.{by-spaghetti, by-cavern, by-ravine}
 use borrow.Author.Needs.{needs}

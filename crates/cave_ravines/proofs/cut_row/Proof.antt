@@ -7,9 +7,8 @@ use lib.Ieee.{Float, binary32, ofInt}
 use lib.ListN.{length, length-set}
 use lib.Signed.{mag}
 use mir.Syntax.{w32}
-use Rattle.num.specs.Laws.{read}
+use Rattle.basics.specs.Words.{read, back}
 use Rattle.noise_tables.specs.Row.{at, Flags, flags-none, flags-more}
-use Rattle.ground_cell.proofs.Signed.{back}
 use Rattle.ground_cell.specs.Caves.{ravineWith}
 use Rattle.cave_ravines.specs.Cuts.{cutAt}
 use Rattle.cave_ravines.proofs.cut_row.Statement.{statement}

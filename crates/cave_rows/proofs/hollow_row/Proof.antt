@@ -6,9 +6,8 @@ use native.Mathlib.Omega.{arith}
 use lib.IntN.{ℤ, pos, _+ℤ_}
 use lib.Signed.{mag}
 use mir.Syntax.{w32}
-use Rattle.num.specs.Laws.{read}
+use Rattle.basics.specs.Words.{read, back}
 use Rattle.column.specs.Floats.{real}
-use Rattle.ground_cell.proofs.Signed.{back}
 use Rattle.cave_rows.proofs.Columns.{row-ends}
 use Rattle.cave_rows.proofs.Flags.{flags-told}
 use Rattle.cave_rows.proofs.hollow_row.Statement.{statement}

@@ -5,8 +5,7 @@ use lib.IntN.{ℤ, pos, _+ℤ_}
 use lib.Ieee.{binary32, ofInt}
 use mir.Syntax.{w32}
 use borrow.Author.Tests.{lt-ltb, le-ltb}
-use Rattle.num.specs.Laws.{read}
-use Rattle.ground_cell.proofs.Signed.{back}
+use Rattle.basics.specs.Words.{read, back}
 use Rattle.cave_tables.specs.Coords.{xOf, yOf, zOf, coordOf}
 use Rattle.cave_tables.proofs.coord.Statement.{statement}
 use Rattle.cave_tables.proofs.coord.Tie as tie

@@ -2,8 +2,8 @@
 use mathlib.Core.Path.{_≡_, sym, ap, _∙_, ap₂}
 use Prim.Native.Nat.{ℕ, _+_, _-_, _≤_}
 use native.Mathlib.Omega.{arith}
-use Rattle.grid.specs.Count.{nonAir}
-use Rattle.chunk.specs.Moves.{columnCount, column-count-none, column-count-more, column-count-most, non-air-most}
+use Rattle.grid.specs.Count.{nonAir, non-air-most}
+use Rattle.chunk.specs.Moves.{columnCount, column-count-none, column-count-more, column-count-most}
 use Rattle.chunk.proofs.column_count.Statement.{statement}
 use Rattle.chunk.proofs.column_count.Tie as tie
 

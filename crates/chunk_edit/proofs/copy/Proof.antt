@@ -5,8 +5,7 @@ use native.Mathlib.Omega.{arith}
 use mathlib.Core.List.{List, _++_}
 use lib.ListN.{length, set, getD, drop, length-set}
 use Rattle.grid.specs.Cube.{tab}
-use Rattle.grid.specs.Grid.{fill-none, fill-more, fill-all}
-use Rattle.chunk.specs.Moves.{tab-list}
+use Rattle.grid.specs.Grid.{fill-none, fill-more, fill-all, tab-list}
 use Rattle.chunk_edit.proofs.copy.Statement.{statement}
 use Rattle.chunk_edit.proofs.copy.Tie as tie
 

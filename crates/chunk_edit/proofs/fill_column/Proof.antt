@@ -8,7 +8,8 @@ use Rattle.grid.specs.Grid.{cube-most}
 use Rattle.chunk.specs.Tests.{chunk-passed, cube-of, count-passed}
 use Rattle.config.specs.Answers.{accepted, outcome}
 use Rattle.chunk_edit.specs.Calls.{fillDoes}
-use Rattle.chunk.specs.Moves.{edit-input, edit-count, edit-done, fill-moves, fill-lays, height-most, column-small, non-air-most}
+use Rattle.chunk.specs.Moves.{edit-input, edit-count, edit-done, fill-moves, fill-lays, height-most, column-small}
+use Rattle.grid.specs.Count.{non-air-most}
 use Rattle.chunk_edit.proofs.fill_column.Statement.{statement}
 use Rattle.chunk_edit.proofs.fill_column.Tie as tie
 

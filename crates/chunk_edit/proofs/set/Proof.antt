@@ -8,7 +8,8 @@ use Rattle.grid.specs.Grid.{cube-most}
 use Rattle.chunk.specs.Tests.{cell-passed, cell-at, chunk-most, count-passed}
 use Rattle.config.specs.Answers.{accepted, outcome}
 use Rattle.chunk_edit.specs.Calls.{setDoes}
-use Rattle.chunk.specs.Moves.{edit-input, edit-count, edit-done, set-moves, set-lays, non-air-most}
+use Rattle.chunk.specs.Moves.{edit-input, edit-count, edit-done, set-moves, set-lays}
+use Rattle.grid.specs.Count.{non-air-most}
 use Rattle.chunk_edit.proofs.set.Statement.{statement}
 use Rattle.chunk_edit.proofs.set.Tie as tie
 

@@ -3,7 +3,8 @@ use mathlib.Core.Path.{refl, ap, _∙_}
 use mir.Syntax.{w32}
 use mir.ValLaws.{toZ-ofZ}
 use Rattle.num.specs.Num.{toI32}
-use Rattle.num.specs.Laws.{read, ap₃}
+use Rattle.basics.specs.Words.{read}
+use Rattle.basics.specs.Paths.{ap₃}
 use Rattle.column.specs.Column.{clampOf, heightOf}
 use borrow.Author.Needs.{needs}
 use Rattle.column.proofs.blended_height.Statement.{statement}

@@ -3,7 +3,7 @@ use mathlib.Core.Path.{ap, ap₂, _∙_}
 use lib.Ieee.{Float}
 use mir.Syntax.{w32}
 use mir.ValLaws.{toZ-ofZ}
-use Rattle.num.specs.Laws.{ap₄}
+use Rattle.basics.specs.Paths.{ap₄}
 use Rattle.column.specs.Column.{climateOf, reliefOf, columnOf, columnAt, surfaceOf, biomeAndHeight}
 use Rattle.column.specs.Floats.{_+f_, real}
 use borrow.Author.Needs.{needs}

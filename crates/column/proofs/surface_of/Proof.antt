@@ -2,7 +2,7 @@
 use mathlib.Core.Path.{_≡_, ap, ap₂, _∙_}
 use mir.Syntax.{w32}
 use mir.ValLaws.{toZ-ofZ}
-use Rattle.num.specs.Laws.{read}
+use Rattle.basics.specs.Words.{read}
 use Rattle.column.specs.Column.{weightsOf, heightsOf, dominantOf, heightOf, surface, surfaceOf}
 use Rattle.column.specs.declared.Column.{Column}
 use borrow.Author.Needs.{needs}

@@ -8,7 +8,8 @@ use lib.ListN.{length, drop}
 use Rattle.grid.specs.Cube.{tab}
 use Rattle.grid.specs.Grid.{square-most, fill-length}
 use Rattle.ground_cell.specs.Base.{columnHeight, columnBiome}
-use Rattle.column_tops_row.specs.Laws.{none, more, row-fits}
+use Rattle.column_tops_row.specs.Laws.{none, more}
+use Rattle.basics.specs.Naturals.{row-fits}
 use Rattle.column_tops.proofs.note_each.Statement.{statement}
 use Rattle.column_tops.proofs.note_each.Tie as tie
 

@@ -6,12 +6,11 @@ use lib.IntN.{ℤ, pos, _+ℤ_}
 use lib.Signed.{mag}
 use lib.Ieee.{Float}
 use mir.Syntax.{w32}
-use Rattle.num.specs.Laws.{read}
+use Rattle.basics.specs.Words.{read, back}
 use Rattle.column.specs.Floats.{_+f_, real}
 use Rattle.column.specs.Column.{climateOf, reliefOf}
 use Rattle.column_read.specs.Laws.{climate-in, relief-in}
 use Rattle.ground_cell.specs.World.{Near}
-use Rattle.ground_cell.proofs.Signed.{back}
 use Rattle.column_tops_row.specs.Tops.{zAt, Laid}
 use borrow.Author.Needs.{needs}
 use Rattle.column_tops.proofs.note_row.Statement.{statement}

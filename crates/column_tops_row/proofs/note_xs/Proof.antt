@@ -6,10 +6,9 @@ use lib.IntN.{ℤ, pos, _+ℤ_}
 use lib.Signed.{mag}
 use lib.Ieee.{Float}
 use mir.Syntax.{w32}
-use Rattle.num.specs.Laws.{read}
+use Rattle.basics.specs.Words.{read, back}
 use Rattle.column.specs.Floats.{_+f_, real}
 use Rattle.ground_cell.specs.World.{Near}
-use Rattle.ground_cell.proofs.Signed.{back}
 use Rattle.noise_tables.proofs.Fill.{Filling, start, step, end}
 use Rattle.column_tops_row.specs.Tops.{xAt}
 use borrow.Author.Needs.{needs}

@@ -13,7 +13,7 @@ use Rattle.column.specs.Floats.{real}
 use Rattle.column.specs.Column.{surfaceOf}
 use Rattle.column.specs.declared.Surface.{Surface}
 use Rattle.ground_cell.specs.World.{biomeNumber, topWith}
-use Rattle.ground_cell.proofs.Signed.{back}
+use Rattle.basics.specs.Words.{back}
 use Rattle.column_tops_row.specs.Tops.{topOf}
 use Rattle.column_tops_row.specs.Laws.{surface-range}
 use borrow.Author.Needs.{needs}

@@ -7,8 +7,9 @@ use mir.Val.{SFits}
 use mir.ValLaws.{toZ-pos}
 use borrow.Author.Needs.{needs}
 use Rattle.config.specs.Refusals.{refusal-stop}
-use Rattle.config.specs.Limits.{sizeOk, size-large, limitRefusal, configHeader}
-use Rattle.config.proofs.Products.{widen-fits, widen-same, widen-mag, header-same}
+use Rattle.config.specs.Limits.{sizeOk, size-large, limitRefusal, configHeader, header-same}
+use Rattle.config.proofs.Products.{widen-mag}
+use Rattle.basics.specs.Words.{widen-fits, widen-same}
 use Rattle.config.proofs.config_limits.Statement.{statement}
 use Rattle.config.proofs.config_limits.Tie as tie
 

@@ -5,7 +5,8 @@ use native.Mathlib.Omega.{arith}
 use lib.IntN.{ℤ, pos, _*ℤ_}
 use mir.Syntax.{w32}
 use mir.ValLaws.{toZ-ofZ}
-use Rattle.num.specs.Laws.{read, ap₃}
+use Rattle.basics.specs.Words.{read}
+use Rattle.basics.specs.Paths.{ap₃}
 use Rattle.ground.specs.Ground.{frameWith, frameOf}
 use Rattle.ground.proofs.frame_of.Statement.{statement}
 use Rattle.ground.proofs.frame_of.Tie as tie

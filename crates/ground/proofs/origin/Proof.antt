@@ -6,8 +6,7 @@ use lib.IntN.{ℤ, pos, _*ℤ_}
 use mir.Syntax.{w32, w64}
 use mir.Val.{SFits, ofZ, toZ}
 use mir.ValLaws.{toZ-ofZ, toZ-pos}
-use Rattle.config.proofs.Products.{widened, widen-fits, widen-same}
-use Rattle.ground_cell.proofs.Signed.{again, back}
+use Rattle.basics.specs.Words.{widened, widen-fits, widen-same, again, back}
 use Rattle.ground.proofs.origin.Statement.{statement}
 use Rattle.ground.proofs.origin.Tie as tie
 
@@ -33,7 +32,7 @@ cast-result-3 : tie.Need-cast-result-3
 cast-result-3 c = subst (SFits w32) (sym (product c)) (record { sfits = (let g = c .pre .1 in omega arith) })
 
 returns : tie.Need-returns
-returns c = ap again (product c) ∙ back (c .args .c *ℤ pos (c .args .size)) (c .pre .1)
+returns c = ap (again w32) (product c) ∙ back (c .args .c *ℤ pos (c .args .size)) (c .pre .1)
 
 pub origin-spec : {M : Type 1} → statement M
 origin-spec = tie.close (tie.spec cast-result cast-result-2 mul-result cast-result-3 returns)

@@ -9,11 +9,12 @@ use lib.Ieee.{Float, ofBits}
 use mir.Syntax.{w32}
 use mir.Val.{SFits}
 use mir.ValLaws.{toZ-ofZ}
-use Rattle.num.specs.Laws.{ap₃}
+use Rattle.basics.specs.Paths.{ap₃}
 use Rattle.num.specs.Num.{nearest}
 use Rattle.column.specs.Floats.{_*f_, nat}
-use Rattle.config.specs.Limits.{Between, one-less}
-use Rattle.ground_cell.proofs.Signed.{again, back}
+use Rattle.config.specs.Limits.{Between}
+use Rattle.basics.specs.Integers.{one-less}
+use Rattle.basics.specs.Words.{again, back}
 use Rattle.ground.specs.Ground.{worldWith, worldOf}
 use Rattle.ground.proofs.world_of.Statement.{statement}
 use Rattle.ground.proofs.world_of.Tie as tie
@@ -48,7 +49,7 @@ returns c =
     let hf : SFits w32 (a .«world_height_blocks» -ℤ pos 1) = subst (SFits w32) (sym lo) (record { sfits = omega arith }) in
     let sm : mag (a .«sea_level») ≤ 1000000 = (let q = s .pre .1 in omega arith) in
     ap₃ (λ (f : Float) (u v : ℤ). worldWith (f *f nat 1000) u v) (c .before .before .nearest-u32-to-f32 .ensures) (back (a .«sea_level») sm)
-    (ap again (ap (λ (u : ℤ). u -ℤ pos 1) hb) ∙ toZ-ofZ w32 (a .«world_height_blocks» -ℤ pos 1) hf)
+    (ap (again w32) (ap (λ (u : ℤ). u -ℤ pos 1) hb) ∙ toZ-ofZ w32 (a .«world_height_blocks» -ℤ pos 1) hf)
 
 pub world-of-spec : {M : Type 1} → statement M
 world-of-spec = tie.close (tie.spec nearest-u32-to-f32-requires sub-t5 returns)

@@ -3,7 +3,7 @@ use mathlib.Core.Path.{sym}
 use lib.IntN.{ℤ, pos}
 use lib.Signed.{ltZ}
 use mir.Syntax.{w64}
-use Rattle.num.specs.Laws.{test}
+use Rattle.basics.specs.Words.{test}
 use Rattle.ground_blocks.specs.Blocks.{desertBlock}
 use Rattle.ground_blocks.proofs.desert.Statement.{statement}
 use Rattle.ground_blocks.proofs.desert.Tie as tie

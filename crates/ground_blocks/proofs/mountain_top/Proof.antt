@@ -6,7 +6,7 @@ use lib.IntN.{ℤ, pos}
 use lib.Signed.{ltZ}
 use mir.Syntax.{w32}
 use mir.ValLaws.{toZ-ofZ}
-use Rattle.num.specs.Laws.{test}
+use Rattle.basics.specs.Words.{test}
 use Rattle.ground_blocks.specs.Blocks.{snowPatch, mountainTop}
 use Rattle.ground_blocks.proofs.mountain_top.Statement.{statement}
 use Rattle.ground_blocks.proofs.mountain_top.Tie as tie

@@ -4,7 +4,8 @@ use mathlib.Core.Path.{sym, ap, ap₂, _∙_}
 use lib.IntN.{_-ℤ_}
 use mir.Syntax.{w32, w64}
 use mir.ValLaws.{toZ-ofZ}
-use Rattle.num.specs.Laws.{read, ap₃}
+use Rattle.basics.specs.Words.{read}
+use Rattle.basics.specs.Paths.{ap₃}
 use Rattle.column.specs.declared.Biome.{Biome}
 use Rattle.ground_blocks.specs.Blocks.{desertBlock, mountainBlock, forestBlock, plainsBlock, selectBlock}
 use Rattle.ground_blocks.proofs.select_block.Statement.{statement}

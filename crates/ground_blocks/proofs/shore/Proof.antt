@@ -6,7 +6,7 @@ use lib.IntN.{ℤ, pos, _-ℤ_}
 use lib.Signed.{ltZ}
 use mir.Syntax.{w32, w64}
 use mir.ValLaws.{toZ-ofZ}
-use Rattle.num.specs.Laws.{read}
+use Rattle.basics.specs.Words.{read}
 use Rattle.ground_blocks.specs.Blocks.{shoreBlock}
 use Rattle.ground_blocks.proofs.shore.Statement.{statement}
 use Rattle.ground_blocks.proofs.shore.Tie as tie

@@ -5,7 +5,7 @@ use lib.IntN.{ℤ, pos}
 use lib.Ieee.{ofBits, lt}
 use mir.Syntax.{w32}
 use mir.ValLaws.{toZ-ofZ}
-use Rattle.num.specs.Laws.{read}
+use Rattle.basics.specs.Words.{read}
 use Rattle.num.specs.Num.{nearest}
 use Rattle.num.specs.Wrap.{mulW}
 use Rattle.noise.specs.Hash.{hash2₃₂}

@@ -7,7 +7,7 @@ use lib.Ieee.{ofBits}
 use borrow.Author.Tests.{eq-eqb, ne-eqb}
 use Rattle.num.specs.Num.{nearest}
 use Rattle.grid.specs.Cube.{steps}
-use Rattle.ground_cell.proofs.Signed.{back}
+use Rattle.basics.specs.Words.{back}
 use Rattle.ground_boulders.specs.Signs.{rangeLength, sum-natural}
 use Rattle.ground_boulders.specs.Boulders.{pillarOf, boulderHeight, boulderBlocks, placeBoulder}
 use Rattle.ground_boulders.proofs.boulder_at.Statement.{statement}

@@ -7,9 +7,8 @@ use lib.IntN.{ℤ, pos, _+ℤ_}
 use lib.Signed.{mag}
 use lib.Ieee.{Float}
 use mir.Syntax.{w32}
-use Rattle.num.specs.Laws.{read}
+use Rattle.basics.specs.Words.{read, back}
 use Rattle.ground_cell.specs.World.{Near}
-use Rattle.ground_cell.proofs.Signed.{back}
 use Rattle.ground_boulders.specs.Signs.{plus, hash2-plus}
 use Rattle.ground_boulders.specs.Boulders.{insetIn, boulderHash, placeBoulder, boulderColumn}
 use Rattle.ground_boulders.proofs.boulder_column.Statement.{statement}

@@ -11,7 +11,7 @@ use mir.Syntax.{w32}
 use mir.Val.{toZ}
 use Rattle.grid.specs.Cube.{putAt, steps}
 use Rattle.grid.specs.Grid.{steps-more, steps-none}
-use Rattle.ground_cell.proofs.Signed.{again, back}
+use Rattle.basics.specs.Words.{again, back}
 use Rattle.ground_boulders.specs.Boulders.{pillarStep, pillarOf}
 use Rattle.ground_boulders.proofs.pillar.Statement.{statement}
 use Rattle.ground_boulders.proofs.pillar.Tie as tie
@@ -30,7 +30,7 @@ add-local-y c =
     let s = c .before .before .before in
     let l = c .before .loop in
     let a = s .args in
-    let f = pillarStep (a .size) (again (a .oy)) (a .x) (a .z) (a .y) (a .v) in
+    let f = pillarStep (a .size) (again w32 (a .oy)) (a .x) (a .z) (a .y) (a .v) in
     let pn : a .y + a .n < 8589934592 = s .pre .2 in
     let i0 : l .j ≤ a .n = l .inv .0 in
     let lt : l .j < a .n = c .loop-test .taken in
@@ -41,7 +41,7 @@ local-y-requires c κs =
     let s = c .before .before .before in
     let l = c .before .loop in
     let a = s .args in
-    let f = pillarStep (a .size) (again (a .oy)) (a .x) (a .z) (a .y) (a .v) in
+    let f = pillarStep (a .size) (again w32 (a .oy)) (a .x) (a .z) (a .y) (a .v) in
     let pn : a .y + a .n < 8589934592 = s .pre .2 in
     let i0 : l .j ≤ a .n = l .inv .0 in
     let lt : l .j < a .n = c .loop-test .taken in
@@ -52,7 +52,7 @@ put-requires c κs =
     let s = c .before .before .before .before .before in
     let l = c .before .before .before .loop in
     let a = s .args in
-    let f = pillarStep (a .size) (again (a .oy)) (a .x) (a .z) (a .y) (a .v) in
+    let f = pillarStep (a .size) (again w32 (a .oy)) (a .x) (a .z) (a .y) (a .v) in
     let pn : a .y + a .n < 8589934592 = s .pre .2 in
     let i0 : l .j ≤ a .n = l .inv .0 in
     let lt : l .j < a .n = c .before .before .loop-test .taken in
@@ -63,7 +63,7 @@ add-j c =
     let s = c .before .before .before .before .before .before .before .before in
     let l = c .before .before .before .before .before .before .loop in
     let a = s .args in
-    let f = pillarStep (a .size) (again (a .oy)) (a .x) (a .z) (a .y) (a .v) in
+    let f = pillarStep (a .size) (again w32 (a .oy)) (a .x) (a .z) (a .y) (a .v) in
     let pn : a .y + a .n < 8589934592 = s .pre .2 in
     let i0 : l .j ≤ a .n = l .inv .0 in
     let lt : l .j < a .n = c .before .before .before .before .before .loop-test .taken in
@@ -74,7 +74,7 @@ loop-less c =
     let s = c .before .before .before .before .before .before .before .before in
     let l = c .before .before .before .before .before .before .loop in
     let a = s .args in
-    let f = pillarStep (a .size) (again (a .oy)) (a .x) (a .z) (a .y) (a .v) in
+    let f = pillarStep (a .size) (again w32 (a .oy)) (a .x) (a .z) (a .y) (a .v) in
     let pn : a .y + a .n < 8589934592 = s .pre .2 in
     let i0 : l .j ≤ a .n = l .inv .0 in
     let lt : l .j < a .n = c .before .before .before .before .before .loop-test .taken in
@@ -86,7 +86,7 @@ loop-again c =
     let s = c .before .before .before .before .before .before .before .before in
     let l = c .before .before .before .before .before .before .loop in
     let a = s .args in
-    let f = pillarStep (a .size) (again (a .oy)) (a .x) (a .z) (a .y) (a .v) in
+    let f = pillarStep (a .size) (again w32 (a .oy)) (a .x) (a .z) (a .y) (a .v) in
     let pn : a .y + a .n < 8589934592 = s .pre .2 in
     let i0 : l .j ≤ a .n = l .inv .0 in
     let lt : l .j < a .n = c .before .before .before .before .before .loop-test .taken in
@@ -101,7 +101,7 @@ returns c =
     let s = c .before .before .before in
     let l = c .before .loop in
     let a = s .args in
-    let f = pillarStep (a .size) (again (a .oy)) (a .x) (a .z) (a .y) (a .v) in
+    let f = pillarStep (a .size) (again w32 (a .oy)) (a .x) (a .z) (a .y) (a .v) in
     let pn : a .y + a .n < 8589934592 = s .pre .2 in
     let i0 : l .j ≤ a .n = l .inv .0 in
     let e : l .j ≡ a .n = (let t = c .loop-test .left in omega arith) in

@@ -7,7 +7,7 @@ use lib.IntN.{ℤ}
 use Rattle.ground_cell.specs.World.{topWith}
 use Rattle.ground_cell.specs.Base.{baseCells}
 use Rattle.ground_cell.specs.Laws.{column-least}
-use Rattle.ground_cell.proofs.Signed.{back}
+use Rattle.basics.specs.Words.{back}
 use Rattle.ground_trees.specs.Features.{bouldersOf, treesOf, topIn, topOf}
 use Rattle.ground_chunk.specs.Laid.{groundIn, boulders-same, trees-same}
 use Rattle.ground_chunk.proofs.lay_passes.Statement.{statement}

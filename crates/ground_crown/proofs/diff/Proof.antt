@@ -5,7 +5,7 @@ use lib.IntN.{pos, _-ℤ_}
 use mir.Syntax.{w32}
 use mir.Val.{SFits}
 use mir.ValLaws.{toZ-ofZ}
-use Rattle.ground_cell.proofs.Signed.{again}
+use Rattle.basics.specs.Words.{again}
 use Rattle.ground_crown.proofs.Counts.{diff-read, diff-fits}
 use Rattle.ground_crown.proofs.diff.Statement.{statement}
 use Rattle.ground_crown.proofs.diff.Tie as tie
@@ -26,7 +26,7 @@ returns : tie.Need-returns
 returns c =
     let s = c in
     let a = s .args in
-    ap again (diff-read (a .i) (a .r) (s .pre .0) (s .pre .1)) ∙ toZ-ofZ w32 (pos (a .i) -ℤ pos (a .r)) (diff-fits (a .i) (a .r) (s .pre .0) (s .pre .1))
+    ap (again w32) (diff-read (a .i) (a .r) (s .pre .0) (s .pre .1)) ∙ toZ-ofZ w32 (pos (a .i) -ℤ pos (a .r)) (diff-fits (a .i) (a .r) (s .pre .0) (s .pre .1))
 
 pub diff-spec : {M : Type 1} → statement M
 diff-spec = tie.close (tie.spec cast-result cast-result-2 sub-result returns)

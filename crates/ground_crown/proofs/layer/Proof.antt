@@ -9,10 +9,10 @@ use lib.ListN.{length}
 use mir.Syntax.{w32}
 use mir.Val.{toZ}
 use mir.ValLaws.{toZ-ofZ}
-use Rattle.num.specs.Laws.{ap₃}
+use Rattle.basics.specs.Paths.{ap₃}
 use Rattle.grid.specs.Cube.{steps}
 use Rattle.grid.specs.Grid.{steps-more, steps-none}
-use Rattle.ground_cell.proofs.Signed.{again}
+use Rattle.basics.specs.Words.{again}
 use Rattle.ground_crown.specs.Crown.{leafStep, layerStep, layerOf}
 use Rattle.ground_crown.proofs.layer.Statement.{statement}
 use Rattle.ground_crown.proofs.layer.Tie as tie
@@ -69,7 +69,7 @@ leaf-requires c κs =
     let w = 2 * a .r + 1 in
     let q : 2 * a .r + 1 ≤ 9 = omega arith in
     let g : (2 * a .r + 1) * (2 * a .r + 1) ≤ 9 * 9 = mul-le-mul q q in
-    let f = layerStep (a .size) (a .x) (a .z) (again (a .wx)) (again (a .wz)) (a .y) (a .r) (a .l) in
+    let f = layerStep (a .size) (a .x) (a .z) (again w32 (a .wx)) (again w32 (a .wz)) (a .y) (a .r) (a .l) in
     let i0 : lo .j ≤ (2 * a .r + 1) * (2 * a .r + 1) = lo .inv .0 in
     let lt : lo .j < (2 * a .r + 1) * (2 * a .r + 1) = c .before .loop-test .taken in
     let dv = div-le-self (lo .j) (2 * a .r + 1) in
@@ -85,7 +85,7 @@ add-j c =
     let w = 2 * a .r + 1 in
     let q : 2 * a .r + 1 ≤ 9 = omega arith in
     let g : (2 * a .r + 1) * (2 * a .r + 1) ≤ 9 * 9 = mul-le-mul q q in
-    let f = layerStep (a .size) (a .x) (a .z) (again (a .wx)) (again (a .wz)) (a .y) (a .r) (a .l) in
+    let f = layerStep (a .size) (a .x) (a .z) (again w32 (a .wx)) (again w32 (a .wz)) (a .y) (a .r) (a .l) in
     let i0 : lo .j ≤ (2 * a .r + 1) * (2 * a .r + 1) = lo .inv .0 in
     let lt : lo .j < (2 * a .r + 1) * (2 * a .r + 1) = c .before .before .before .before .loop-test .taken in
     omega arith
@@ -99,7 +99,7 @@ loop-less c =
     let w = 2 * a .r + 1 in
     let q : 2 * a .r + 1 ≤ 9 = omega arith in
     let g : (2 * a .r + 1) * (2 * a .r + 1) ≤ 9 * 9 = mul-le-mul q q in
-    let f = layerStep (a .size) (a .x) (a .z) (again (a .wx)) (again (a .wz)) (a .y) (a .r) (a .l) in
+    let f = layerStep (a .size) (a .x) (a .z) (again w32 (a .wx)) (again w32 (a .wz)) (a .y) (a .r) (a .l) in
     let i0 : lo .j ≤ (2 * a .r + 1) * (2 * a .r + 1) = lo .inv .0 in
     let lt : lo .j < (2 * a .r + 1) * (2 * a .r + 1) = c .before .before .before .before .loop-test .taken in
     omega arith
@@ -114,10 +114,10 @@ loop-again c =
     let w = 2 * a .r + 1 in
     let q : 2 * a .r + 1 ≤ 9 = omega arith in
     let g : (2 * a .r + 1) * (2 * a .r + 1) ≤ 9 * 9 = mul-le-mul q q in
-    let f = layerStep (a .size) (a .x) (a .z) (again (a .wx)) (again (a .wz)) (a .y) (a .r) (a .l) in
+    let f = layerStep (a .size) (a .x) (a .z) (again w32 (a .wx)) (again w32 (a .wz)) (a .y) (a .r) (a .l) in
     let i0 : lo .j ≤ (2 * a .r + 1) * (2 * a .r + 1) = lo .inv .0 in
     let lt : lo .j < (2 * a .r + 1) * (2 * a .r + 1) = c .before .before .before .before .loop-test .taken in
-    (omega arith, c .before .before .leaf .kept .0 ∙ lo .inv .1, c .before .before .leaf .ensures ∙ ap (leafStep (a .size) (a .x) (a .z) (again (a .wx)) (again (a .wz)) (a .y) (a .r) (a .l) (lo .j / w) (lo .j % w)) (lo .inv .2) ∙ steps-more (lo .j) f (a .cells .now))
+    (omega arith, c .before .before .leaf .kept .0 ∙ lo .inv .1, c .before .before .leaf .ensures ∙ ap (leafStep (a .size) (a .x) (a .z) (again w32 (a .wx)) (again w32 (a .wz)) (a .y) (a .r) (a .l) (lo .j / w) (lo .j % w)) (lo .inv .2) ∙ steps-more (lo .j) f (a .cells .now))
 
 same-length : tie.Need-same-length Inv-loop μ-loop
 same-length c = c .before .loop .inv .1
@@ -132,7 +132,7 @@ returns c =
     let w = 2 * a .r + 1 in
     let q : 2 * a .r + 1 ≤ 9 = omega arith in
     let g : (2 * a .r + 1) * (2 * a .r + 1) ≤ 9 * 9 = mul-le-mul q q in
-    let f = layerStep (a .size) (a .x) (a .z) (again (a .wx)) (again (a .wz)) (a .y) (a .r) (a .l) in
+    let f = layerStep (a .size) (a .x) (a .z) (again w32 (a .wx)) (again w32 (a .wz)) (a .y) (a .r) (a .l) in
     let i0 : lo .j ≤ (2 * a .r + 1) * (2 * a .r + 1) = lo .inv .0 in
     let e : lo .j ≡ (2 * a .r + 1) * (2 * a .r + 1) = (let t = c .loop-test .left in omega arith) in
     lo .inv .2

@@ -3,7 +3,7 @@ use borrow.Author.Needs.{needs}
 use mathlib.Core.Path.{ap₂, _∙_}
 use mir.Syntax.{w32}
 use mir.ValLaws.{toZ-ofZ}
-use Rattle.num.specs.Laws.{read}
+use Rattle.basics.specs.Words.{read}
 use Rattle.num.specs.Wrap.{addW}
 use Rattle.noise.specs.Hash.{hash2₃₂}
 use Rattle.ground_crown.specs.Crown.{leafHash}

@@ -8,7 +8,7 @@ use lib.IntN.{ℤ, pos}
 use lib.Signed.{mag}
 use borrow.Author.Tests.{lt-ltb, le-ltb}
 use Rattle.ground_cell.specs.World.{localY}
-use Rattle.ground_cell.proofs.Signed.{back}
+use Rattle.basics.specs.Words.{back}
 use Rattle.ground_lines.specs.Lines.{belowLevel}
 use Rattle.ground_lines.proofs.below_level.Statement.{statement}
 use Rattle.ground_lines.proofs.below_level.Tie as tie

@@ -7,10 +7,10 @@ use lib.IntN.{ℤ, pos, _+ℤ_}
 use lib.ListN.{getD}
 use lib.Signed.{mag}
 use mir.Syntax.{w32}
-use Rattle.num.specs.Laws.{read}
+use Rattle.basics.specs.Words.{read, back}
 use Rattle.ground_cell.specs.World.{cellWith, topWith}
-use Rattle.ground_cell.proofs.Signed.{back}
-use Rattle.ground_lines.proofs.Small.{square, cube}
+use Rattle.ground_lines.proofs.Small.{square}
+use Rattle.grid.specs.Grid.{cube-most}
 use Rattle.ground_lines.specs.Laws.{Laying, laying-none, laying-more, laying-all, line-fits, column-fits, height-range, cell-is}
 use Rattle.ground_lines.proofs.lay_line.Statement.{statement}
 use Rattle.ground_lines.proofs.lay_line.Tie as tie
@@ -39,7 +39,7 @@ mul-column c =
     let k = column-fits (s .args .w) (s .args .o) (s .args .y) (s .args .z) y z in
     let i = line-fits (s .args .w) (s .args .o) 0 (s .args .y) (s .args .z) (omega arith) y z in
     let q = square size size m m in
-    let v = cube size m in
+    let v = cube-most size m in
     omega arith
 
 add-first : tie.Need-add-first Inv-loop μ-loop
@@ -53,7 +53,7 @@ add-first c =
     let k = column-fits (s .args .w) (s .args .o) (s .args .y) (s .args .z) y z in
     let i = line-fits (s .args .w) (s .args .o) 0 (s .args .y) (s .args .z) (omega arith) y z in
     let q = square size size m m in
-    let v = cube size m in
+    let v = cube-most size m in
     omega arith
 
 mul-first : tie.Need-mul-first Inv-loop μ-loop
@@ -67,7 +67,7 @@ mul-first c =
     let k = column-fits (s .args .w) (s .args .o) (s .args .y) (s .args .z) y z in
     let i = line-fits (s .args .w) (s .args .o) 0 (s .args .y) (s .args .z) (omega arith) y z in
     let q = square size size m m in
-    let v = cube size m in
+    let v = cube-most size m in
     omega arith
 
 loop-holds : tie.Need-loop-holds Inv-loop μ-loop
@@ -85,7 +85,7 @@ add-cells c =
     let k = column-fits (s .args .w) (s .args .o) (l .x) (s .args .z) t (s .pre .3) in
     let i = line-fits (s .args .w) (s .args .o) (l .x) (s .args .y) (s .args .z) t (s .pre .2) (s .pre .3) in
     let q = square size size m m in
-    let v = cube size m in
+    let v = cube-most size m in
     let n = s .pre .4 in
     let hl = n .long in
     let bl = n .longer in
@@ -103,7 +103,7 @@ mul-cells c =
     let k = column-fits (s .args .w) (s .args .o) (l .x) (s .args .z) t (s .pre .3) in
     let i = line-fits (s .args .w) (s .args .o) (l .x) (s .args .y) (s .args .z) t (s .pre .2) (s .pre .3) in
     let q = square size size m m in
-    let v = cube size m in
+    let v = cube-most size m in
     let n = s .pre .4 in
     let hl = n .long in
     let bl = n .longer in
@@ -121,7 +121,7 @@ shared-slice-read-cells c =
     let k = column-fits (s .args .w) (s .args .o) (l .x) (s .args .z) t (s .pre .3) in
     let i = line-fits (s .args .w) (s .args .o) (l .x) (s .args .y) (s .args .z) t (s .pre .2) (s .pre .3) in
     let q = square size size m m in
-    let v = cube size m in
+    let v = cube-most size m in
     let n = s .pre .4 in
     let hl = n .long in
     let bl = n .longer in
@@ -139,7 +139,7 @@ add-t21 c =
     let k = column-fits (s .args .w) (s .args .o) (l .x) (s .args .z) t (s .pre .3) in
     let i = line-fits (s .args .w) (s .args .o) (l .x) (s .args .y) (s .args .z) t (s .pre .2) (s .pre .3) in
     let q = square size size m m in
-    let v = cube size m in
+    let v = cube-most size m in
     let n = s .pre .4 in
     let hl = n .long in
     let bl = n .longer in
@@ -157,7 +157,7 @@ shared-slice-read-t23 c =
     let k = column-fits (s .args .w) (s .args .o) (l .x) (s .args .z) t (s .pre .3) in
     let i = line-fits (s .args .w) (s .args .o) (l .x) (s .args .y) (s .args .z) t (s .pre .2) (s .pre .3) in
     let q = square size size m m in
-    let v = cube size m in
+    let v = cube-most size m in
     let n = s .pre .4 in
     let hl = n .long in
     let bl = n .longer in
@@ -175,7 +175,7 @@ shared-slice-read-cell c =
     let k = column-fits (s .args .w) (s .args .o) (l .x) (s .args .z) t (s .pre .3) in
     let i = line-fits (s .args .w) (s .args .o) (l .x) (s .args .y) (s .args .z) t (s .pre .2) (s .pre .3) in
     let q = square size size m m in
-    let v = cube size m in
+    let v = cube-most size m in
     let n = s .pre .4 in
     let hl = n .long in
     let bl = n .longer in
@@ -202,7 +202,7 @@ add-cells-2 c =
     let k = column-fits (s .args .w) (s .args .o) (l .x) (s .args .z) t (s .pre .3) in
     let i = line-fits (s .args .w) (s .args .o) (l .x) (s .args .y) (s .args .z) t (s .pre .2) (s .pre .3) in
     let q = square size size m m in
-    let v = cube size m in
+    let v = cube-most size m in
     let n = s .pre .4 in
     let hl = n .long in
     let bl = n .longer in
@@ -220,7 +220,7 @@ mul-cells-2 c =
     let k = column-fits (s .args .w) (s .args .o) (l .x) (s .args .z) t (s .pre .3) in
     let i = line-fits (s .args .w) (s .args .o) (l .x) (s .args .y) (s .args .z) t (s .pre .2) (s .pre .3) in
     let q = square size size m m in
-    let v = cube size m in
+    let v = cube-most size m in
     let n = s .pre .4 in
     let hl = n .long in
     let bl = n .longer in
@@ -238,7 +238,7 @@ slice-write-cells c =
     let k = column-fits (s .args .w) (s .args .o) (l .x) (s .args .z) t (s .pre .3) in
     let i = line-fits (s .args .w) (s .args .o) (l .x) (s .args .y) (s .args .z) t (s .pre .2) (s .pre .3) in
     let q = square size size m m in
-    let v = cube size m in
+    let v = cube-most size m in
     let n = s .pre .4 in
     let hl = n .long in
     let bl = n .longer in
@@ -256,7 +256,7 @@ add-x c =
     let k = column-fits (s .args .w) (s .args .o) (l .x) (s .args .z) t (s .pre .3) in
     let i = line-fits (s .args .w) (s .args .o) (l .x) (s .args .y) (s .args .z) t (s .pre .2) (s .pre .3) in
     let q = square size size m m in
-    let v = cube size m in
+    let v = cube-most size m in
     let n = s .pre .4 in
     let hl = n .long in
     let bl = n .longer in
@@ -274,7 +274,7 @@ loop-less c =
     let k = column-fits (s .args .w) (s .args .o) (l .x) (s .args .z) t (s .pre .3) in
     let i = line-fits (s .args .w) (s .args .o) (l .x) (s .args .y) (s .args .z) t (s .pre .2) (s .pre .3) in
     let q = square size size m m in
-    let v = cube size m in
+    let v = cube-most size m in
     let n = s .pre .4 in
     let hl = n .long in
     let bl = n .longer in
@@ -292,7 +292,7 @@ loop-again c =
     let k = column-fits (s .args .w) (s .args .o) (l .x) (s .args .z) t (s .pre .3) in
     let i = line-fits (s .args .w) (s .args .o) (l .x) (s .args .y) (s .args .z) t (s .pre .2) (s .pre .3) in
     let q = square size size m m in
-    let v = cube size m in
+    let v = cube-most size m in
     let n = s .pre .4 in
     let hl = n .long in
     let bl = n .longer in

@@ -7,7 +7,7 @@ use lib.IntN.{ℤ}
 use lib.Signed.{mag}
 use Rattle.ground_lines.specs.Lines.{belowLevel}
 use Rattle.ground_lines.specs.Laws.{below-most, height-range}
-use Rattle.ground_cell.proofs.Signed.{back}
+use Rattle.basics.specs.Words.{back}
 use Rattle.ground_rows.proofs.lay_row.Statement.{statement}
 use Rattle.ground_rows.proofs.lay_row.Tie as tie
 

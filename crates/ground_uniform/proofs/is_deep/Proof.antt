@@ -5,8 +5,7 @@ use native.Mathlib.Omega.{arith}
 use lib.IntN.{ℤ, pos, negsuc, _+ℤ_}
 use lib.Signed.{mag, leZ}
 use mir.Syntax.{w32}
-use Rattle.num.specs.Laws.{read}
-use Rattle.ground_cell.proofs.Signed.{back}
+use Rattle.basics.specs.Words.{read, back}
 use Rattle.ground_uniform.specs.Place.{deepIn}
 use Rattle.ground_uniform.proofs.is_deep.Statement.{statement}
 use Rattle.ground_uniform.proofs.is_deep.Tie as tie

@@ -6,10 +6,9 @@ use mathlib.Core.Bool.{_&&_}
 use lib.IntN.{ℤ, pos, _+ℤ_}
 use lib.Signed.{mag, leZ}
 use mir.Syntax.{w32}
-use Rattle.num.specs.Laws.{read}
+use Rattle.basics.specs.Words.{read, back}
 use Rattle.ground_cell.specs.World.{Tall}
 use Rattle.ground_cell.specs.declared.world.World.{World}
-use Rattle.ground_cell.proofs.Signed.{back}
 use Rattle.ground_uniform.specs.Place.{skyIn}
 use Rattle.ground_uniform.proofs.is_sky.Statement.{statement}
 use Rattle.ground_uniform.proofs.is_sky.Tie as tie

@@ -10,7 +10,7 @@ use mir.Syntax.{w32}
 use mir.Val.{ofZ, toZ}
 use mir.ValLaws.{toZ-ofZ}
 use borrow.Author.Needs.{needs}
-use Rattle.num.specs.Laws.{read}
+use Rattle.basics.specs.Words.{read}
 use Rattle.noise.specs.Hash.{hash3₃₂}
 use Rattle.noise.specs.Noise.{lerp₃₂, next}
 use Rattle.noise_tables.specs.Row.{at}

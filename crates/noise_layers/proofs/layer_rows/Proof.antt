@@ -3,7 +3,7 @@ use mathlib.Core.Path.{refl, ap, _∙_}
 use Prim.Native.Nat.{_+_, _*_}
 use native.Mathlib.Omega.{arith}
 use mir.Syntax.{w32}
-use Rattle.num.specs.Laws.{read}
+use Rattle.basics.specs.Words.{read}
 use Rattle.noise.specs.Noise.{next}
 use Rattle.noise_layers.proofs.Rows.{laid-same, layered}
 use borrow.Author.Needs.{needs}

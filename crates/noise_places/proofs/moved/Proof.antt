@@ -7,7 +7,8 @@ use mir.Val.{SFits, ofZ}
 use mir.ValLaws.{toZ-ofZ}
 use borrow.Author.Needs.{needs}
 use Rattle.noise_rows.specs.Square.{squareOf}
-use Rattle.noise_places.proofs.Same.{and-both, same}
+use Rattle.noise_places.proofs.Same.{same}
+use Rattle.basics.specs.Bools.{and-both}
 use Rattle.noise_places.proofs.moved.Statement.{statement}
 use Rattle.noise_places.proofs.moved.Tie as tie
 

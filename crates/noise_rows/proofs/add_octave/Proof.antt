@@ -5,7 +5,7 @@ use native.Mathlib.Omega.{arith}
 use lib.Ieee.{Float, binary32, mul, sub}
 use mir.Syntax.{w32}
 use borrow.Author.Needs.{needs}
-use Rattle.num.specs.Laws.{read}
+use Rattle.basics.specs.Words.{read}
 use Rattle.num.proofs.Floor.{floor-again}
 use Rattle.noise.specs.Noise.{smooth₃₂, ease₃₂}
 use Rattle.noise_rows.specs.Square.{squareOf}

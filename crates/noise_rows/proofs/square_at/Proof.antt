@@ -2,11 +2,11 @@
 use mathlib.Core.Path.{ap, ap₂, _∙_}
 use mir.Syntax.{w32}
 use mir.ValLaws.{toZ-ofZ}
-use Rattle.num.specs.Laws.{read}
+use Rattle.basics.specs.Words.{read}
 use Rattle.noise.specs.Hash.{hash2₃₂}
 use Rattle.noise.specs.Noise.{next}
 use Rattle.noise_rows.specs.Square.{squareOf, squareWith}
-use Rattle.noise_rows.proofs.Same.{ap₆}
+use Rattle.basics.specs.Paths.{ap₆}
 use borrow.Author.Needs.{needs}
 use Rattle.noise_rows.proofs.square_at.Statement.{statement}
 use Rattle.noise_rows.proofs.square_at.Tie as tie

@@ -1,6 +1,7 @@
 -- `num_float::abs` meets its contract. Assumes nothing.
 use lib.Ieee.{ofBits}
-use Rattle.num_float.proofs.Floats.{is-T, abs-below, abs-zero, abs-above}
+use Rattle.num_float.proofs.Floats.{abs-below, abs-zero, abs-above}
+use Rattle.basics.specs.Bools.{is-T}
 use Rattle.num_float.proofs.abs.Statement.{statement}
 use Rattle.num_float.proofs.abs.Tie as tie
 

@@ -9,7 +9,8 @@ use lib.IntN.{ℤ, pos, negsuc, _-ℤ_}
 use mir.Syntax.{w32}
 use mir.Val.{SFits, toZ, sel}
 use mir.ValLaws.{toZ-pos, toZ-ofZ}
-use Rattle.num_wrap.proofs.Words.{minus-pos, again}
+use Rattle.num_wrap.proofs.Words.{minus-pos}
+use Rattle.basics.specs.Words.{again}
 use Rattle.num_wrap.proofs.of_bits.Statement.{statement}
 use Rattle.num_wrap.proofs.of_bits.Tie as tie
 
@@ -39,7 +40,7 @@ returns-2 c =
     let n = c .before .args .n in
     let k : n < 2 ^ 32 = c .before .fits .n .fits in
     let h : 2147483648 ≤ n = c .if1 .left in
-    ap again (flipped n h k)
+    ap (again w32) (flipped n h k)
     ∙ toZ-ofZ w32 (negsuc (4294967295 - n)) (record { sfits = omega arith })
     ∙ ap negsuc (let e : 4294967295 - n ≡ 4294967296 - suc n = omega arith in e)
     ∙ sym (ap (λ (b : Bool). sel b (pos n) (negsuc (4294967296 - suc n))) (le-ltb n 2147483648 h))

@@ -1,7 +1,7 @@
 -- `num_wrap::wrapping_mul` meets its contract. Assumes nothing.
 use mathlib.Core.Path.{_≡_, ap, ap₂, _∙_}
-use Rattle.num_wrap.specs.Laws.{read}
-use Rattle.num_wrap.proofs.Words.{again, bits-again}
+use Rattle.basics.specs.Words.{read, again}
+use Rattle.num_wrap.proofs.Words.{bits-again}
 use Prim.Native.Nat.{ℕ, _*_, _%_, _^_}
 use lib.IntN.{ℤ}
 use mir.Val.{SFits, ofZ, toZ}
@@ -26,7 +26,7 @@ of-bits-requires c κs = search needs
 
 -- the bits of the operands, put together modulo 2 ^ 32 and read back
 through : (a b : ℤ) {r : ℤ} {m x y : ℕ} → SFits w32 a → SFits w32 b
-    → r ≡ toZ w32 m → m ≡ (x * y) % 2 ^ 32 → x ≡ ofZ w32 (again a) → y ≡ ofZ w32 (again b) → r ≡ mulW a b
+    → r ≡ toZ w32 m → m ≡ (x * y) % 2 ^ 32 → x ≡ ofZ w32 (again w32 a) → y ≡ ofZ w32 (again w32 b) → r ≡ mulW a b
 through a b f g p q s t =
     p
     ∙ ap (toZ w32) (q ∙ ap₂ (λ (u v : ℕ). (u * v) % 2 ^ 32) (s ∙ bits-again a f) (t ∙ bits-again b g))

@@ -5,7 +5,7 @@ use native.Mathlib.Omega.{arith}
 use mathlib.Core.Bool.{true, false}
 use mir.Syntax.{w32}
 use mir.ValLaws.{toZ-ofZ, toZ-pos}
-use Rattle.num.specs.Laws.{ap₃}
+use Rattle.basics.specs.Paths.{ap₃}
 use Rattle.ground_cell.specs.Blocks.{selectBlock}
 use Rattle.ground_cell.specs.World.{groundCell}
 use Rattle.ground_cell.proofs.Signed.{top-fits, gate}

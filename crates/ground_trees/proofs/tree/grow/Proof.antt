@@ -8,8 +8,8 @@ use lib.IntN.{ℤ, pos}
 use lib.Signed.{mag}
 use mir.Syntax.{w32}
 use mir.ValLaws.{toZ-ofZ}
-use Rattle.num.specs.Laws.{ap₄}
-use Rattle.ground_cell.proofs.Signed.{back}
+use Rattle.basics.specs.Paths.{ap₄}
+use Rattle.basics.specs.Words.{back}
 use Rattle.ground_trees.specs.Features.{pillarOf, canopyOf, growOf}
 use Rattle.ground_trees.proofs.tree.grow.Statement.{statement}
 use Rattle.ground_trees.proofs.tree.grow.Tie as tie

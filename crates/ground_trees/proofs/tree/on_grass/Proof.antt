@@ -6,7 +6,7 @@ use lib.Dec.{eqb}
 use lib.IntN.{ℤ, pos}
 use Rattle.grid.specs.Cube.{seeAt}
 use Rattle.ground_cell.specs.World.{localY}
-use Rattle.ground_cell.proofs.Signed.{back}
+use Rattle.basics.specs.Words.{back}
 use Rattle.ground_trees.proofs.tree.on_grass.Statement.{statement}
 use Rattle.ground_trees.proofs.tree.on_grass.Tie as tie
 

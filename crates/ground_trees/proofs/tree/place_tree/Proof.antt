@@ -9,10 +9,10 @@ use lib.Signed.{ltZ, mag}
 use lib.Ieee.{Float}
 use mir.Syntax.{w32}
 use mir.ValLaws.{toZ-ofZ}
-use Rattle.num.specs.Laws.{ap₃}
+use Rattle.basics.specs.Paths.{ap₃}
 use Rattle.grid.specs.Cube.{seeAt}
 use Rattle.ground_cell.specs.World.{localY}
-use Rattle.ground_cell.proofs.Signed.{back}
+use Rattle.basics.specs.Words.{back}
 use Rattle.ground_trees.specs.Signs.{plus, hash2-plus}
 use Rattle.ground_trees.specs.Features.{plantOf, treeHash, varietyOf, treeGrows, isGiant, placeTree}
 use Rattle.ground_trees.proofs.tree.place_tree.Statement.{statement}

@@ -12,7 +12,7 @@ use mir.ValLaws.{toZ-ofZ}
 use Rattle.grid.specs.Cube.{steps}
 use Rattle.grid.specs.Grid.{below-2, square-most, steps-more, steps-none}
 use Rattle.ground_cell.specs.World.{Near}
-use Rattle.ground_cell.proofs.Signed.{again}
+use Rattle.basics.specs.Words.{again}
 use Rattle.ground_trees.specs.Features.{treeColumn, topIn, treeStep, treesOf}
 use Rattle.ground_trees.proofs.tree.place_trees.Statement.{statement}
 use Rattle.ground_trees.proofs.tree.place_trees.Tie as tie
@@ -39,7 +39,7 @@ mul-t11 c =
     let p : Near o = s .pre .0 in
     let ps : 0 < o .size = p .some in
     let sq = square-most (o .size) (p .most) in
-    let f = treeStep o (again (a .sea)) (topIn (a .heights .now) (a .biomes .now)) in
+    let f = treeStep o (again w32 (a .sea)) (topIn (a .heights .now) (a .biomes .now)) in
     let i0 : l .k ≤ o .size * o .size = l .inv .0 in
     let lt : l .k < o .size * o .size = c .loop-test .taken in
     omega arith
@@ -53,7 +53,7 @@ shared-slice-read-t13 c =
     let p : Near o = s .pre .0 in
     let ps : 0 < o .size = p .some in
     let sq = square-most (o .size) (p .most) in
-    let f = treeStep o (again (a .sea)) (topIn (a .heights .now) (a .biomes .now)) in
+    let f = treeStep o (again w32 (a .sea)) (topIn (a .heights .now) (a .biomes .now)) in
     let i0 : l .k ≤ o .size * o .size = l .inv .0 in
     let lt : l .k < o .size * o .size = c .before .loop-test .taken in
     let g = s .pre .1 in
@@ -68,7 +68,7 @@ shared-slice-read-t15 c =
     let p : Near o = s .pre .0 in
     let ps : 0 < o .size = p .some in
     let sq = square-most (o .size) (p .most) in
-    let f = treeStep o (again (a .sea)) (topIn (a .heights .now) (a .biomes .now)) in
+    let f = treeStep o (again w32 (a .sea)) (topIn (a .heights .now) (a .biomes .now)) in
     let i0 : l .k ≤ o .size * o .size = l .inv .0 in
     let lt : l .k < o .size * o .size = c .before .before .loop-test .taken in
     let g = s .pre .2 in
@@ -89,7 +89,7 @@ tree-column-requires c κs =
     let p : Near o = s .pre .0 in
     let ps : 0 < o .size = p .some in
     let sq = square-most (o .size) (p .most) in
-    let f = treeStep o (again (a .sea)) (topIn (a .heights .now) (a .biomes .now)) in
+    let f = treeStep o (again w32 (a .sea)) (topIn (a .heights .now) (a .biomes .now)) in
     let i0 : l .k ≤ o .size * o .size = l .inv .0 in
     let lt : l .k < o .size * o .size = c .before .before .before .loop-test .taken in
     (record { most = p .most; all = l .inv .1 ∙ s .pre .3 .all }, p, s .pre .4 (l .k) lt, c .before .before .shared-slice-known3 .given (l .k) .fits, mod-lt (l .k) ps, below-2 (o .size) (l .k) lt)
@@ -103,7 +103,7 @@ add-k c =
     let p : Near o = s .pre .0 in
     let ps : 0 < o .size = p .some in
     let sq = square-most (o .size) (p .most) in
-    let f = treeStep o (again (a .sea)) (topIn (a .heights .now) (a .biomes .now)) in
+    let f = treeStep o (again w32 (a .sea)) (topIn (a .heights .now) (a .biomes .now)) in
     let i0 : l .k ≤ o .size * o .size = l .inv .0 in
     let lt : l .k < o .size * o .size = c .before .before .before .before .before .before .loop-test .taken in
     omega arith
@@ -117,7 +117,7 @@ loop-less c =
     let p : Near o = s .pre .0 in
     let ps : 0 < o .size = p .some in
     let sq = square-most (o .size) (p .most) in
-    let f = treeStep o (again (a .sea)) (topIn (a .heights .now) (a .biomes .now)) in
+    let f = treeStep o (again w32 (a .sea)) (topIn (a .heights .now) (a .biomes .now)) in
     let i0 : l .k ≤ o .size * o .size = l .inv .0 in
     let lt : l .k < o .size * o .size = c .before .before .before .before .before .before .loop-test .taken in
     omega arith
@@ -132,10 +132,10 @@ loop-again c =
     let p : Near o = s .pre .0 in
     let ps : 0 < o .size = p .some in
     let sq = square-most (o .size) (p .most) in
-    let f = treeStep o (again (a .sea)) (topIn (a .heights .now) (a .biomes .now)) in
+    let f = treeStep o (again w32 (a .sea)) (topIn (a .heights .now) (a .biomes .now)) in
     let i0 : l .k ≤ o .size * o .size = l .inv .0 in
     let lt : l .k < o .size * o .size = c .before .before .before .before .before .before .loop-test .taken in
-    (omega arith, c .before .before .tree-column .kept .0 ∙ l .inv .1, c .before .before .tree-column .ensures ∙ ap (treeColumn o (again (a .sea)) (topIn (a .heights .now) (a .biomes .now) (l .k)) (l .k % o .size) (l .k / o .size)) (l .inv .2) ∙ steps-more (l .k) f (a .cells .now))
+    (omega arith, c .before .before .tree-column .kept .0 ∙ l .inv .1, c .before .before .tree-column .ensures ∙ ap (treeColumn o (again w32 (a .sea)) (topIn (a .heights .now) (a .biomes .now) (l .k)) (l .k % o .size) (l .k / o .size)) (l .inv .2) ∙ steps-more (l .k) f (a .cells .now))
 
 same-length : tie.Need-same-length Inv-loop μ-loop
 same-length c = c .before .loop .inv .1
@@ -150,7 +150,7 @@ returns c =
     let p : Near o = s .pre .0 in
     let ps : 0 < o .size = p .some in
     let sq = square-most (o .size) (p .most) in
-    let f = treeStep o (again (a .sea)) (topIn (a .heights .now) (a .biomes .now)) in
+    let f = treeStep o (again w32 (a .sea)) (topIn (a .heights .now) (a .biomes .now)) in
     let i0 : l .k ≤ o .size * o .size = l .inv .0 in
     let e : l .k ≡ o .size * o .size = (let t = c .loop-test .left in omega arith) in
     l .inv .2

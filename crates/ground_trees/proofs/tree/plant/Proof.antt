@@ -9,9 +9,9 @@ use lib.Signed.{mag}
 use lib.Ieee.{ofBits}
 use mir.Syntax.{w32}
 use mir.ValLaws.{toZ-ofZ}
-use Rattle.num.specs.Laws.{ap₄}
+use Rattle.basics.specs.Paths.{ap₄}
 use Rattle.num.specs.Num.{nearest}
-use Rattle.ground_cell.proofs.Signed.{back}
+use Rattle.basics.specs.Words.{back}
 use Rattle.ground_trees.specs.Signs.{sum-natural}
 use Rattle.ground_trees.specs.Features.{growOf, trunkHeight, plantOf}
 use Rattle.ground_trees.proofs.tree.plant.Statement.{statement}

@@ -8,9 +8,9 @@ use lib.IntN.{ℤ, pos, _+ℤ_}
 use lib.Signed.{mag}
 use mir.Syntax.{w32}
 use mir.ValLaws.{toZ-ofZ}
-use Rattle.num.specs.Laws.{read, ap₄}
+use Rattle.basics.specs.Words.{read, back}
+use Rattle.basics.specs.Paths.{ap₄}
 use Rattle.ground_cell.specs.World.{Near}
-use Rattle.ground_cell.proofs.Signed.{back}
 use Rattle.ground_trees.specs.Features.{insetIn, placeTree, treeColumn}
 use Rattle.ground_trees.proofs.tree.tree_column.Statement.{statement}
 use Rattle.ground_trees.proofs.tree.tree_column.Tie as tie

@@ -4,7 +4,7 @@ use mathlib.Core.Path.{ap, ap₂, _∙_}
 use lib.IntN.{ℤ, pos}
 use mir.Syntax.{w32}
 use mir.ValLaws.{toZ-ofZ}
-use Rattle.num.specs.Laws.{read}
+use Rattle.basics.specs.Words.{read}
 use Rattle.num.specs.Wrap.{addW}
 use Rattle.noise.specs.Hash.{hash2₃₂}
 use Rattle.ground_trees.specs.Features.{varietyOf}

@@ -2,7 +2,7 @@
 use mathlib.Core.Path.{_≡_, _∙_, ap}
 use mathlib.Core.Bool.{false}
 use mathlib.Core.Logic.{⊎-elim}
-use Rattle.num.specs.Laws.{read}
+use Rattle.basics.specs.Words.{read}
 use lib.IntN.{pos}
 use lib.Ieee.{Float, fin, binary32, sub, ofBits, neg, ofInt, toSigned}
 use lib.Ieee.Casts.{toSigned-in}
@@ -10,7 +10,7 @@ use mir.Syntax.{w32}
 use mir.Val.{ofZ, toZ}
 use mir.ValLaws.{toZ-ofZ}
 use Rattle.num.specs.Num.{floorI, toI32}
-use Rattle.num_float.proofs.Floats.{is-T}
+use Rattle.basics.specs.Bools.{is-T}
 use Rattle.num.proofs.Floor.{Fast, lift, sink, fast-above, fast-below, far-above, far-below}
 use borrow.Author.Needs.{needs}
 use Rattle.num.proofs.float.far_part.Statement.{statement}

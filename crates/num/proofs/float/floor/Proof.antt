@@ -2,7 +2,7 @@
 use mathlib.Core.Path.{_≡_, _∙_, subst}
 use mathlib.Core.Bool.{true, false}
 use lib.Ieee.{Float, lt, ofBits, neg}
-use Rattle.num_float.proofs.Floats.{is-T}
+use Rattle.basics.specs.Bools.{is-T}
 use Rattle.num.proofs.Floor.{floor-part-is, floor-far-above, floor-far-below}
 use borrow.Author.Needs.{needs}
 use Rattle.num.proofs.float.floor.Statement.{statement}

@@ -8,7 +8,7 @@ use lib.Ieee.{fin, lt, ofBits, neg, toSigned}
 use lib.Ieee.Casts.{toSigned-in}
 use mir.Syntax.{w32}
 use mir.ValLaws.{toZ-ofZ}
-use Rattle.num_float.proofs.Floats.{is-T, both}
+use Rattle.basics.specs.Bools.{is-T, and-both}
 use Rattle.num.proofs.Floor.{Fast, fast-centre}
 use Rattle.num.proofs.float.floor_part.Statement.{statement}
 use Rattle.num.proofs.float.floor_part.Tie as tie
@@ -19,7 +19,7 @@ unfolding ofBits neg
 near c =
     let s = c .before .before .before in
     let x = s .args .x in
-    let h = both (lt (fin true 1 (pos 22)) x) (lt x (fin false 1 (pos 22))) (c .before .before .if1 .taken) in
+    let h = and-both (lt (fin true 1 (pos 22)) x) (lt x (fin false 1 (pos 22))) (c .before .before .if1 .taken) in
     let b = fast-centre x (is-T (s .good .0 .1)) (h .0) (h .1) in
     ⊎-elim (λ w. subst (Fast x) (sym (w .1)) (b .0 (w .0 .taken))) (λ w. subst (Fast x) (sym (w .1)) (b .1 (w .0 .left))) (c .before .if2 .came)
 

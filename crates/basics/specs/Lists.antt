@@ -1,6 +1,6 @@
--- Lists that are filled from the front. Assumes nothing.
+-- Laws of lists. Assumes nothing.
 use mathlib.Core.Path.{_≡_, refl, sym, ap, _∙_}
-use mathlib.Core.List.{List}
+use mathlib.Core.List.{List, [], _∷_}
 use mathlib.Core.Bool.{Bool, true, false}
 use Prim.Native.Nat.{ℕ, _+_, _<_}
 use native.Mathlib.Omega.{arith}
@@ -8,6 +8,11 @@ use lib.Dec.{ltb}
 use lib.ListN.{length, getD, set}
 use lib.Seq.{getD-set-same, getD-set-other}
 use borrow.Author.Tests.{ltb-true, ltb-false}
+
+-- a list of no length
+pub nil : {A : Type 0} (l : List A) → length l ≡ 0 → l ≡ []
+nil [] e = refl
+nil (x ∷ l) e = absurd (omega arith)
 
 -- the first n places hold g, and then place n too
 pub front-more : {A : Type 0} (d : A) (g : ℕ → A) (l : List A) (n : ℕ) (v : A) → n < length l → v ≡ g n → ((i : ℕ) → i < n → getD l i d ≡ g i)
