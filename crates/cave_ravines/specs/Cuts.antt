@@ -13,7 +13,8 @@ use Rattle.column.specs.Floats.{_*f_, real}
 use Rattle.noise_tables.specs.Row.{at, Flags}
 use Rattle.noise_tables.specs.Places.{Tells, Noted}
 use Rattle.noise_rows.specs.Sums.{freqAt, Lies, Summed}
-use Rattle.cave_tables.specs.Coords.{scaledBy, xOf, coordOf}
+use Rattle.noise_tables.specs.Scaled.{scaledBy}
+use Rattle.cave_tables.specs.Coords.{xOf, coordOf}
 use Rattle.ground_cell.specs.Caves.{ravineWith, ravineHere}
 use Rattle.ground_cell.specs.declared.world.Frame.{Frame}
 

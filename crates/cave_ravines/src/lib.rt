@@ -7,10 +7,12 @@ ghost use Rattle.noise_tables.specs.Places.{Noted};
 ghost use Rattle.cave_tables.specs.Coords.{coordOf};
 ghost use Rattle.ground_cell.specs.World.{Near};
 ghost use Rattle.cave_ravines.specs.Cuts.{cutAt, Cuts};
-use noise_rows::fbm_row;
+use cave_tables::RAVINE_AT;
 use ground_cell::cave::ravine_with;
 use ground_cell::world::Frame;
 use ground_cell::world::along;
+use noise_rows::fbm_row;
+use noise_tables::PLACES;
 use num::float::of_i32;
 
 fn cut_row(f: Frame, z: f32, vals: &[f32], cuts: &mut [bool])
@@ -34,7 +36,7 @@ pub fn note_cuts(f: Frame, z: usize, floors: &[u32], eases: &[f32], cuts: &mut [
     let n = f.size;
     let wz = along(f.oz, z);
     let v = of_i32(wz);
-    let mut vals = [0.0f32; 64];
-    fbm_row(v * 0.01, 3, 512, n, floors, eases, &mut vals);
+    let mut vals = [0.0f32; PLACES];
+    fbm_row(v * 0.01, 3, RAVINE_AT, n, floors, eases, &mut vals);
     cut_row(f, v, &vals, cuts);
 }

@@ -12,7 +12,8 @@ use Rattle.noise.specs.Noise.{octave, octaves, fbm, along3, noise3d₃₂, fbm3
 use Rattle.column.specs.Floats.{_+f_, _-f_, _*f_, _/f_, nat, real, square}
 use Rattle.noise_tables.specs.Places.{Tells, Noted}
 use Rattle.noise_layers.specs.Noise.{octave-noise}
-use Rattle.cave_tables.specs.Coords.{scaledBy, xOf, yOf, zOf, coordOf}
+use Rattle.noise_tables.specs.Scaled.{scaledBy}
+use Rattle.cave_tables.specs.Coords.{xOf, yOf, zOf, coordOf}
 use Rattle.ground_cell.specs.Caves.{spaghettiCave, largeCavern, ravineHere, ravineCut, carved}
 use Rattle.ground_cell.specs.declared.world.Frame.{Frame}
 use Rattle.cave_rows.specs.Layers.{levelAt, depthAt, AllLayers}

@@ -12,12 +12,25 @@ ghost use Rattle.cave_ravines.specs.Cuts.{Cuts};
 ghost use Rattle.ground_cell.specs.World.{Near};
 ghost use Rattle.cave_rows.specs.Layers.{Room, AllLayers};
 ghost use Rattle.cave_rows.specs.Fields.{sum3Of, sum2Of, hollowOf, judgedAt, Hollow};
-use noise_layers::add_row;
-use noise_layers::layer_rows;
+use cave_tables::CAVE_B;
+use cave_tables::CAVERN;
+use cave_tables::DEPTH_AT;
+use cave_tables::LEVEL_AT;
+use cave_tables::RAVINE;
 use ground_cell::world::Frame;
 use ground_cell::world::along;
+use noise_layers::LAYER;
+use noise_layers::add_row;
+use noise_layers::layer_rows;
+use noise_tables::PLACES;
 use num::float::clamp;
 use num::float::of_i32;
+
+// From a place of an octave to the same place two octaves on.
+const TWO_OCTAVES: usize = 2 * PLACES;
+
+// How long the edges are: a layer for each octave before the ravines', which have no levels.
+pub const EDGES: usize = RAVINE * LAYER;
 
 // The layers of every octave at level y, for the row at z.
 pub fn first_layers(y: usize, z: usize, n: usize, floors: &[u32], eases: &[f32], edges: &mut [f32])
@@ -25,11 +38,11 @@ pub fn first_layers(y: usize, z: usize, n: usize, floors: &[u32], eases: &[f32],
     ensures { λ _. ⌜ AllLayers y z n (now (floors .entry)) (now (eases .entry)) (now (edges .exit)) ⌝ }
 {
     let mut o = 0;
-    while o < 8 {
+    while o < RAVINE {
         layer_rows(
             o,
-            o * 64 + 704 + y,
-            o * 64 + 1216 + z,
+            o * PLACES + LEVEL_AT + y,
+            o * PLACES + DEPTH_AT + z,
             n,
             floors,
             eases,
@@ -53,45 +66,80 @@ fn raise_layers(
     ensures { λ _. ⌜ AllLayers y z n (now (floors .entry)) (now (eases .entry)) (now (edges .exit)) ⌝ }
 {
     let mut o = 0;
-    while o < 8 {
-        let level = o * 64 + 704;
+    while o < RAVINE {
+        let level = o * PLACES + LEVEL_AT;
         if floors[level + from] != floors[level + y] {
-            layer_rows(o, level + y, o * 64 + 1216 + z, n, floors, eases, edges);
+            layer_rows(
+                o,
+                level + y,
+                o * PLACES + DEPTH_AT + z,
+                n,
+                floors,
+                eases,
+                edges,
+            );
         }
         o += 1;
     }
 }
 
-fn no_sums() -> [f32; 64]
+fn no_sums() -> [f32; PLACES]
     ensures { λ r. ⌜ Row 64 zeroAt r ⌝ }
 {
-    [0.0f32; 64]
+    [0.0f32; PLACES]
 }
 
 // The sums of three octaves from o on, for each cell of the row.
-fn sum3(o: usize, y: usize, z: usize, n: usize, eases: &[f32], edges: &[f32]) -> [f32; 64]
+fn sum3(o: usize, y: usize, z: usize, n: usize, eases: &[f32], edges: &[f32]) -> [f32; PLACES]
     requires { ⌜ (o ≤ 5) × (y < 64) × (z < 64) × (n ≤ 64) × (length (now eases) ≡ 1728) × (length (now edges) ≡ 2048) ⌝ }
     ensures { λ r. ⌜ Row n (sum3Of o y z (now (eases .entry)) (now (edges .entry))) r ⌝ }
 {
-    let ky = o * 64 + 704 + y;
-    let kz = o * 64 + 1216 + z;
+    let ky = o * PLACES + LEVEL_AT + y;
+    let kz = o * PLACES + DEPTH_AT + z;
     let mut sums = no_sums();
     add_row(o, ky, kz, 1.0, n, eases, edges, &mut sums);
-    add_row(o + 1, ky + 64, kz + 64, 0.5, n, eases, edges, &mut sums);
-    add_row(o + 2, ky + 128, kz + 128, 0.25, n, eases, edges, &mut sums);
+    add_row(
+        o + 1,
+        ky + PLACES,
+        kz + PLACES,
+        0.5,
+        n,
+        eases,
+        edges,
+        &mut sums,
+    );
+    add_row(
+        o + 2,
+        ky + TWO_OCTAVES,
+        kz + TWO_OCTAVES,
+        0.25,
+        n,
+        eases,
+        edges,
+        &mut sums,
+    );
     sums
 }
 
 // The same of two octaves.
-fn sum2(o: usize, y: usize, z: usize, n: usize, eases: &[f32], edges: &[f32]) -> [f32; 64]
+fn sum2(o: usize, y: usize, z: usize, n: usize, eases: &[f32], edges: &[f32]) -> [f32; PLACES]
     requires { ⌜ (o ≤ 6) × (y < 64) × (z < 64) × (n ≤ 64) × (length (now eases) ≡ 1728) × (length (now edges) ≡ 2048) ⌝ }
     ensures { λ r. ⌜ Row n (sum2Of o y z (now (eases .entry)) (now (edges .entry))) r ⌝ }
 {
-    let ky = o * 64 + 704 + y;
-    let kz = o * 64 + 1216 + z;
+    let ky = o * PLACES + LEVEL_AT + y;
+    let kz = o * PLACES + DEPTH_AT + z;
     let mut sums = no_sums();
     add_row(o, ky, kz, 1.0, n, eases, edges, &mut sums);
-    add_row(o + 1, ky + 64, kz + 64, 0.5, n, eases, edges, &mut sums);
+    add_row(
+        o + 1,
+        ky + PLACES,
+        kz + PLACES,
+        0.5,
+        n,
+        eases,
+        edges,
+        &mut sums,
+    );
     sums
 }
 
@@ -150,8 +198,8 @@ pub fn hollow_row(
     let n = f.size;
     raise_layers(from, y, z, n, floors, eases, edges);
     let a = sum3(0, y, z, n, eases, edges);
-    let b = sum3(3, y, z, n, eases, edges);
-    let c = sum2(6, y, z, n, eases, edges);
+    let b = sum3(CAVE_B, y, z, n, eases, edges);
+    let c = sum2(CAVERN, y, z, n, eases, edges);
     let wy = along(f.oy, y);
     judge(of_i32(wy), z * n, n, heights, cuts, &a, &b, &c, flags);
 }

@@ -1,16 +1,13 @@
 -- A chunk's coordinates, as the octaves of the caves' noise (SCOPE 4.10) take them. Assumes nothing.
 use mathlib.Core.Bool.{cond}
 use Prim.Native.Nat.{ℕ, _-_}
-use lib.Dec.{eqb, ltb}
+use lib.Dec.{ltb}
 use lib.IntN.{pos, _+ℤ_}
 use lib.Ieee.{Float}
 use Rattle.num.specs.Num.{nearest}
+use Rattle.noise_tables.specs.Scaled.{scaledBy}
 use Rattle.column.specs.Floats.{_+f_, _-f_, _*f_, nat, real}
 use Rattle.ground_cell.specs.declared.world.Frame.{Frame}
-
--- at octave k of a field
-unfoldable pub scaledBy : ℕ → Float → Float
-scaledBy k t = cond (eqb k 0) (t *f nat 1) (cond (eqb k 1) (t *f nat 2) (t *f nat 4))
 
 -- octave o of all along x: 0 to 2 and 3 to 5 of spaghetti caves, 6 and 7 of caverns, 8 to 10 of ravines
 unfoldable pub xOf : ℕ → Float → Float

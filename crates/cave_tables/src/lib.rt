@@ -1,68 +1,80 @@
 // A chunk's coordinates as the noise of caves takes them, in tables that all its cells share: whole part and smoothed
-// fraction of each octave. Along x, octaves 0 to 2 and 3 to 5 are the two fields of spaghetti caves, 6 and 7 that of
-// caverns, 8 to 10 that of ravines; along y the first eight of these are 11 to 18, and along z 19 to 26.
+// fraction of each octave. Along x the two fields of spaghetti caves have three octaves each, caverns have two and ravines
+// three; along y, and then along z, come the octaves of all but ravines.
 ghost use mathlib.Core.Path.{_≡_};
 ghost use Prim.Native.Nat.{_≤_, _<_};
 ghost use lib.ListN.{length};
 ghost use Rattle.noise_tables.specs.Row.{Row};
 ghost use Rattle.noise_tables.specs.Places.{Noted};
 ghost use Rattle.ground_cell.specs.World.{Near};
-ghost use Rattle.cave_tables.specs.Coords.{scaledBy, xOf, yOf, zOf, coordOf};
-use noise_tables::note_octave;
+ghost use Rattle.cave_tables.specs.Coords.{xOf, yOf, zOf, coordOf};
 use ground_cell::world::Frame;
 use ground_cell::world::along;
+use noise_tables::PLACES;
+use noise_tables::note_octave;
+use noise_tables::scaled;
 use num::float::of_i32;
 
-// A coordinate at octave k of its field: times 1, 2 or 4.
-fn scaled(k: usize, t: f32) -> f32
-    ensures { λ r. ⌜ r ≡ scaledBy k t ⌝ }
-{
-    if k == 0 {
-        return t * 1.0;
-    }
-    if k == 1 {
-        return t * 2.0;
-    }
-    t * 4.0
-}
+// The first octave of each field along x but the first, whose is 0.
+pub const CAVE_B: usize = 3;
+
+pub const CAVERN: usize = 6;
+
+pub const RAVINE: usize = 8;
+
+// The first octave along y, the first along z, and how many there are.
+const LEVEL: usize = 11;
+
+const DEPTH: usize = 19;
+
+const OCTAVES: usize = 27;
+
+// Where the octaves of ravines, those along y and those along z begin in the tables, and how long the tables are.
+pub const RAVINE_AT: usize = RAVINE * PLACES;
+
+pub const LEVEL_AT: usize = LEVEL * PLACES;
+
+pub const DEPTH_AT: usize = DEPTH * PLACES;
+
+pub const TABLE: usize = OCTAVES * PLACES;
 
 fn x_at(o: usize, x: f32) -> f32
     ensures { λ r. ⌜ r ≡ xOf o x ⌝ }
 {
-    if o < 3 {
+    if o < CAVE_B {
         return scaled(o, x * 0.04 + 100.0);
     }
-    if o < 6 {
-        return scaled(o - 3, x * 0.04 - 200.0);
+    if o < CAVERN {
+        return scaled(o - CAVE_B, x * 0.04 - 200.0);
     }
-    if o < 8 {
-        return scaled(o - 6, x * 0.015);
+    if o < RAVINE {
+        return scaled(o - CAVERN, x * 0.015);
     }
-    scaled(o - 8, x * 0.01)
+    scaled(o - RAVINE, x * 0.01)
 }
 
 fn y_at(o: usize, y: f32) -> f32
     ensures { λ r. ⌜ r ≡ yOf o y ⌝ }
 {
-    if o < 3 {
+    if o < CAVE_B {
         return scaled(o, y * 0.06 + 100.0);
     }
-    if o < 6 {
-        return scaled(o - 3, y * 0.06 - 200.0);
+    if o < CAVERN {
+        return scaled(o - CAVE_B, y * 0.06 - 200.0);
     }
-    scaled(o - 6, y * 0.025)
+    scaled(o - CAVERN, y * 0.025)
 }
 
 fn z_at(o: usize, z: f32) -> f32
     ensures { λ r. ⌜ r ≡ zOf o z ⌝ }
 {
-    if o < 3 {
+    if o < CAVE_B {
         return scaled(o, z * 0.04 + 100.0);
     }
-    if o < 6 {
-        return scaled(o - 3, z * 0.04 + 300.0);
+    if o < CAVERN {
+        return scaled(o - CAVE_B, z * 0.04 + 300.0);
     }
-    scaled(o - 6, z * 0.015)
+    scaled(o - CAVERN, z * 0.015)
 }
 
 // Octave o at place i of its axis.
@@ -70,16 +82,16 @@ fn coord(f: Frame, o: usize, i: usize) -> f32
     requires { ⌜ Near f × (i < 64) ⌝ }
     ensures { λ r. ⌜ r ≡ coordOf f o i ⌝ }
 {
-    if o < 11 {
+    if o < LEVEL {
         let wx = along(f.ox, i);
         return x_at(o, of_i32(wx));
     }
-    if o < 19 {
+    if o < DEPTH {
         let wy = along(f.oy, i);
-        return y_at(o - 11, of_i32(wy));
+        return y_at(o - LEVEL, of_i32(wy));
     }
     let wz = along(f.oz, i);
-    z_at(o - 19, of_i32(wz))
+    z_at(o - DEPTH, of_i32(wz))
 }
 
 fn fill_coords(f: Frame, o: usize, ts: &mut [f32])
@@ -101,9 +113,9 @@ pub fn note_coords(f: Frame, ts: &mut [f32], floors: &mut [u32], eases: &mut [f3
 {
     let n = f.size;
     let mut o = 0;
-    while o < 27 {
+    while o < OCTAVES {
         fill_coords(f, o, ts);
-        note_octave(ts, o * 64, n, floors, eases);
+        note_octave(ts, o * PLACES, n, floors, eases);
         o += 1;
     }
 }

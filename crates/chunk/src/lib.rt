@@ -7,6 +7,12 @@ ghost use Rattle.grid.specs.Count.{nonAir};
 ghost use Rattle.grid_edits.specs.Edits.{columnHeight, layColumn};
 ghost use Rattle.chunk.specs.Tests.{chunkRefusal, cellRefusal, countRefusal};
 ghost use Rattle.chunk.specs.Moves.{columnCount};
+use config::bounds::SIZE_MOST;
+use config::refusals::LENGTH;
+use config::refusals::OK;
+use config::refusals::OUTSIDE;
+use config::refusals::RECORD;
+use config::refusals::SIZE;
 
 // The answer of an edit: the count of non-air cells after it, or a refusal.
 pub enum Counted {
@@ -31,15 +37,15 @@ pub fn refuse_chunk(size: usize, n: usize) -> u32
     ensures { λ r. ⌜ r ≡ chunkRefusal size n ⌝ }
 {
     if size < 1 {
-        return 1;
+        return SIZE;
     }
-    if 64 < size {
-        return 1;
+    if SIZE_MOST < size {
+        return SIZE;
     }
     if n != size * size * size {
-        return 6;
+        return LENGTH;
     }
-    0
+    OK
 }
 
 // Refusal 1, 6 or 7 of a cell, or 0.
@@ -47,19 +53,13 @@ pub fn refuse_cell(size: usize, n: usize, x: usize, y: usize, z: usize) -> u32
     ensures { λ r. ⌜ r ≡ cellRefusal size n x y z ⌝ }
 {
     let k = refuse_chunk(size, n);
-    if k != 0 {
+    if k != OK {
         return k;
     }
-    if x >= size {
-        return 7;
+    if !grid::is_inside(size, x, y, z) {
+        return OUTSIDE;
     }
-    if y >= size {
-        return 7;
-    }
-    if z >= size {
-        return 7;
-    }
-    0
+    OK
 }
 
 // 1 for a block, 0 for air.
@@ -79,16 +79,16 @@ pub fn refuse_count(size: usize, count: u32, before: u32, after: u32) -> u32
 {
     let volume = (size * size * size) as u32;
     if volume < count {
-        return 21;
+        return RECORD;
     }
     let total = count + after;
     if total < before {
-        return 21;
+        return RECORD;
     }
     if volume < total - before {
-        return 21;
+        return RECORD;
     }
-    0
+    OK
 }
 
 // How high a column reaches: clipped to the size, and nothing outside.

@@ -5,6 +5,8 @@ ghost use Rattle.config.specs.Answers.{outcome};
 ghost use Rattle.chunk.specs.Tests.{countRefusal};
 ghost use Rattle.chunk_batch.specs.Replies.{saysWritten};
 ghost use Rattle.chunk_batch.specs.Calls.{batchDoes};
+use config::refusals::OK;
+use config::refusals::RECORD;
 
 // The answer of a batch: how many groups were written and the count of non-air cells after them, or a refusal.
 pub enum BatchReply {
@@ -21,16 +23,16 @@ fn refuse_change(size: usize, count: u32, before: usize, after: usize) -> u32
     let volume = size * size * size;
     let held = count as usize;
     if volume < held {
-        return 21;
+        return RECORD;
     }
     let total = held + after;
     if total < before {
-        return 21;
+        return RECORD;
     }
     if volume < total - before {
-        return 21;
+        return RECORD;
     }
-    0
+    OK
 }
 
 // A batch of any length on bare cells, laid on whole or refused whole: its net change is known before a
@@ -39,12 +41,12 @@ pub fn set_blocks(cells: &mut [u16], size: usize, count: u32, edits: &[u32]) -> 
     ensures { λ r. ⌜ outcome (saysWritten r) (now (cells .exit)) ≡ batchDoes size count (now (cells .entry)) (now (edits .entry)) ⌝ }
 {
     let k = chunk::refuse_chunk(size, cells.len());
-    if k != 0 {
+    if k != OK {
         return BatchReply::Refused(k);
     }
     let change = chunk_trial::any_change(cells, size, edits);
     let m = refuse_change(size, count, change.before, change.after);
-    if m != 0 {
+    if m != OK {
         return BatchReply::Refused(m);
     }
     let n = journal_write::count_inside(size, edits);

@@ -4,6 +4,8 @@ ghost use Prim.Native.Nat.{_≤_, _<_, _*_};
 ghost use lib.ListN.{length};
 ghost use Rattle.grid.specs.Cube.{Cube};
 ghost use Rattle.chunk_border.specs.Border.{borderSource, borderOf, borderRefusal, saysExtracted, bordered, borderDoes};
+use config::refusals::LENGTH;
+use config::refusals::OK;
 
 // The six sides of a chunk, by the names of the Rust original.
 pub enum Face {
@@ -42,13 +44,13 @@ fn refuse_border(size: usize, n: usize, m: usize) -> u32
     ensures { λ r. ⌜ r ≡ borderRefusal size n m ⌝ }
 {
     let k = chunk::refuse_chunk(size, n);
-    if k != 0 {
+    if k != OK {
         return k;
     }
     if m != size * size {
-        return 6;
+        return LENGTH;
     }
-    0
+    OK
 }
 
 // Copies the layer.
@@ -69,7 +71,7 @@ pub fn extract_border(cells: &[u16], size: usize, face: Face, border: &mut [u16]
     ensures { λ r. ⌜ bordered (saysExtracted r) (now (border .exit)) ≡ borderDoes face size (now (cells .entry)) (now (border .entry)) ⌝ }
 {
     let k = refuse_border(size, cells.len(), border.len());
-    if k != 0 {
+    if k != OK {
         return Extracted::Refused(k);
     }
     copy_border(cells, size, face, border);

@@ -6,19 +6,21 @@ ghost use Rattle.config.specs.Answers.{outcome};
 ghost use Rattle.chunk.specs.Replies.{saysCounted};
 ghost use Rattle.chunk_edit.specs.Calls.{replaceRefusal, replaceDoes, setDoes, fillDoes};
 use chunk::Counted;
+use config::refusals::LENGTH;
+use config::refusals::OK;
 
 // Refusal 1 or 6 of the cells and of the slice that replaces them, or 0.
 fn refuse_replace(size: usize, n: usize, m: usize) -> u32
     ensures { λ r. ⌜ r ≡ replaceRefusal size n m ⌝ }
 {
     let k = chunk::refuse_chunk(size, n);
-    if k != 0 {
+    if k != OK {
         return k;
     }
     if m != n {
-        return 6;
+        return LENGTH;
     }
-    0
+    OK
 }
 
 // Copies the blocks over the cells.
@@ -38,7 +40,7 @@ pub fn replace_blocks(cells: &mut [u16], size: usize, blocks: &[u16]) -> Counted
     ensures { λ r. ⌜ outcome (saysCounted r) (now (cells .exit)) ≡ replaceDoes size (now (cells .entry)) (now (blocks .entry)) ⌝ }
 {
     let k = refuse_replace(size, cells.len(), blocks.len());
-    if k != 0 {
+    if k != OK {
         return Counted::Refused(k);
     }
     copy(cells, blocks);
@@ -59,14 +61,14 @@ pub fn set(
     ensures { λ r. ⌜ outcome (saysCounted r) (now (cells .exit)) ≡ setDoes size count (now (cells .entry)) x y z id ⌝ }
 {
     let k = chunk::refuse_cell(size, cells.len(), x, y, z);
-    if k != 0 {
+    if k != OK {
         return Counted::Refused(k);
     }
     let i = grid::cell_index(size, x, y, z);
     let before = chunk::non_air(cells[i]);
     let after = chunk::non_air(id);
     let m = chunk::refuse_count(size, count, before, after);
-    if m != 0 {
+    if m != OK {
         return Counted::Refused(m);
     }
     cells[i] = id;
@@ -86,14 +88,14 @@ pub fn fill_column(
     ensures { λ r. ⌜ outcome (saysCounted r) (now (cells .exit)) ≡ fillDoes size count (now (cells .entry)) x z height id ⌝ }
 {
     let k = chunk::refuse_chunk(size, cells.len());
-    if k != 0 {
+    if k != OK {
         return Counted::Refused(k);
     }
     let h = chunk::column_height(size, x, z, height);
     let before = chunk::column_count(cells, size, x, z, h);
     let after = h as u32 * chunk::non_air(id);
     let m = chunk::refuse_count(size, count, before, after);
-    if m != 0 {
+    if m != OK {
         return Counted::Refused(m);
     }
     chunk::lay_column(cells, size, x, z, h, id);

@@ -8,6 +8,7 @@ ghost use Rattle.grid_edits.specs.Edits.{group, groupInside, insideGroups, batc
 ghost use Rattle.journal_write.specs.Groups.{groupOf};
 ghost use Rattle.chunk_groups.specs.Laid.{laid, idOver};
 ghost use Rattle.chunk_groups.specs.Net.{Net};
+use config::bounds::IDS;
 
 // One group of a batch.
 pub struct BlockEdit {
@@ -33,7 +34,7 @@ fn wide(n: u32) -> usize
 fn id_of(n: u32) -> u16
     ensures { λ r. ⌜ r ≡ n % 65536 ⌝ }
 {
-    (n % 65536) as u16
+    (n % IDS) as u16
 }
 
 // Group k of a batch.

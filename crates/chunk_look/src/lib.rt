@@ -5,13 +5,14 @@ ghost use Rattle.chunk.specs.Replies.{saysId, saysFlag};
 ghost use Rattle.chunk_look.specs.Calls.{getDoes, isAirDoes, isEmptyDoes, isSolidDoes};
 use chunk::BlockId;
 use chunk::Flag;
+use config::refusals::OK;
 
 // The id of a cell.
 pub fn get(cells: &[u16], size: usize, x: usize, y: usize, z: usize) -> BlockId
     ensures { λ r. ⌜ saysId r ≡ getDoes size (now (cells .entry)) x y z ⌝ }
 {
     let k = chunk::refuse_cell(size, cells.len(), x, y, z);
-    if k != 0 {
+    if k != OK {
         return BlockId::Refused(k);
     }
     let i = grid::cell_index(size, x, y, z);
@@ -23,7 +24,7 @@ pub fn is_air(cells: &[u16], size: usize, x: usize, y: usize, z: usize) -> Flag
     ensures { λ r. ⌜ saysFlag r ≡ isAirDoes size (now (cells .entry)) x y z ⌝ }
 {
     let k = chunk::refuse_cell(size, cells.len(), x, y, z);
-    if k != 0 {
+    if k != OK {
         return Flag::Refused(k);
     }
     let i = grid::cell_index(size, x, y, z);
@@ -35,7 +36,7 @@ pub fn is_empty(cells: &[u16], size: usize) -> Flag
     ensures { λ r. ⌜ saysFlag r ≡ isEmptyDoes size (now (cells .entry)) ⌝ }
 {
     let k = chunk::refuse_chunk(size, cells.len());
-    if k != 0 {
+    if k != OK {
         return Flag::Refused(k);
     }
     let n = grid::count_non_air(cells);
@@ -47,7 +48,7 @@ pub fn is_solid(cells: &[u16], size: usize) -> Flag
     ensures { λ r. ⌜ saysFlag r ≡ isSolidDoes size (now (cells .entry)) ⌝ }
 {
     let k = chunk::refuse_chunk(size, cells.len());
-    if k != 0 {
+    if k != OK {
         return Flag::Refused(k);
     }
     let n = grid::count_non_air(cells);

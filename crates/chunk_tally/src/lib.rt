@@ -6,6 +6,8 @@ ghost use lib.ListN.{length, drop};
 ghost use lib.Seq.{sets};
 ghost use Rattle.chunk_tally.specs.Ids.{listIf, bumpAt, Room, idTable, windowIds, windowCounts, presentIds, presentCounts};
 ghost use Rattle.chunk_tally.specs.Tally.{saysListed, Tallied};
+use config::refusals::OK;
+use config::refusals::TALLY_LISTS;
 
 // How many ids a chunk holds, or a refusal.
 pub enum Listed {
@@ -174,15 +176,15 @@ fn tally_in(
     ensures { λ r. ⌜ Tallied size (now (cells .entry)) (saysListed r) (now (ids .entry)) (now (counts .entry)) (now (ids .exit)) (now (counts .exit)) ⌝ }
 {
     let k = chunk::refuse_chunk(size, cells.len());
-    if k != 0 {
+    if k != OK {
         return Listed::Refused(k);
     }
     let n = count_ids(cells, table);
     if ids.len() < n {
-        return Listed::Refused(13);
+        return Listed::Refused(TALLY_LISTS);
     }
     if counts.len() < n {
-        return Listed::Refused(13);
+        return Listed::Refused(TALLY_LISTS);
     }
     list_ids(cells, ids, counts, table);
     Listed::Ids(n)
@@ -192,6 +194,6 @@ fn tally_in(
 pub fn tally(cells: &[u16], size: usize, ids: &mut [u16], counts: &mut [u32]) -> Listed
     ensures { λ r. ⌜ Tallied size (now (cells .entry)) (saysListed r) (now (ids .entry)) (now (counts .entry)) (now (ids .exit)) (now (counts .exit)) ⌝ }
 {
-    let mut table = [0u32; 8192];
+    let mut table = [0u32; WINDOW];
     tally_in(cells, size, ids, counts, &mut table)
 }

@@ -10,7 +10,7 @@ ghost use Rattle.chunk_trial.specs.Trial.{partOf, putPart, partLaid};
 use chunk_groups::BlockEdit;
 use chunk_groups::Change;
 
-// A trial copies the cells by parts of this many, so that the copy stays small on the stack.
+// A dry run copies the cells by parts of this many, so that the copy stays small on the stack.
 const PART: usize = 16384;
 
 // From this many numbers on a batch is tried on a copy.
@@ -88,7 +88,7 @@ fn trial_count(cells: &[u16], size: usize, edits: &[u32], part: &mut [u16]) -> u
     total
 }
 
-// The change of a long batch, by a trial.
+// The change of a long batch, by a dry run.
 fn trial_change(cells: &[u16], size: usize, edits: &[u32]) -> Change
     requires { ⌜ Cube size (now cells) ⌝ }
     ensures { λ r. ⌜ Net (now (cells .entry)) (batchCells size (insideGroups size (batchGroups (now (edits .entry)))) (now (cells .entry))) (length (now (edits .entry)) / 4 + 262144) r ⌝ }

@@ -10,7 +10,8 @@ use Rattle.noise_tables.specs.Places.{Tells}
 use Rattle.noise_rows.specs.Sums.{freqAt, Lies, Summed}
 use Rattle.column.specs.Floats.{_+f_, _*f_, nat}
 use Rattle.column.specs.Column.{offsetFbm₃₂, scaledFbm₃₂}
-use Rattle.column_tables.specs.Coords.{scaledBy, climateX, reliefX, lowlandX, coordOf, coordsOf, Tabled}
+use Rattle.noise_tables.specs.Scaled.{scaledBy}
+use Rattle.column_tables.specs.Coords.{climateX, reliefX, lowlandX, coordOf, coordsOf, Tabled}
 use Rattle.column_rows.specs.Rows.{offsetAt, scaledAt, offsetRow, scaledRow}
 
 below2 : (P : ℕ → Type 0) → P 0 → P 1 → (k : ℕ) → k < 2 → P k

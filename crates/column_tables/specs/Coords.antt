@@ -2,16 +2,13 @@
 use mathlib.Core.List.{List}
 use mathlib.Core.Bool.{cond}
 use Prim.Native.Nat.{ℕ, _-_}
-use lib.Dec.{eqb, ltb}
+use lib.Dec.{ltb}
 use lib.Ieee.{Float, neg}
 use Rattle.num.specs.Num.{nearest}
+use Rattle.noise_tables.specs.Scaled.{scaledBy}
 use Rattle.noise_tables.specs.Row.{at}
 use Rattle.noise_tables.specs.Places.{Noted}
 use Rattle.column.specs.Floats.{_+f_, _*f_, nat}
-
--- at octave k of a field
-unfoldable pub scaledBy : ℕ → Float → Float
-scaledBy k t = cond (eqb k 0) (t *f nat 1) (cond (eqb k 1) (t *f nat 2) (cond (eqb k 2) (t *f nat 4) (t *f nat 8)))
 
 -- temperature, moisture, and the two fields that warp the continent
 unfoldable pub climateX : ℕ → Float → Float

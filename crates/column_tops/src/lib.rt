@@ -11,12 +11,14 @@ use column_rows::climate_rows;
 use column_rows::height_rows;
 use column_rows::lowland_rows;
 use column_rows::ridge_rows;
+use column_tables::TABLE;
 use column_tables::note_rows;
 use column_tops_row::note_xs;
 use column_tops_row::put_row;
 use ground_cell::world::Frame;
 use ground_cell::world::World;
 use ground_cell::world::along;
+use noise_tables::PLACES;
 use num::float::of_i32;
 
 // Notes the tops of row z.
@@ -34,16 +36,16 @@ fn note_row(
     ensures { λ _. ⌜ (now (heights .exit) ≡ steps (o .size) (noteAt (columnHeight w o) (z * o .size)) (now (heights .entry))) × (now (biomes .exit) ≡ steps (o .size) (noteAt (columnBiome w o) (z * o .size)) (now (biomes .entry))) ⌝ }
 {
     let n = o.size;
-    let mut temp = [0.0f32; 64];
-    let mut moisture = [0.0f32; 64];
-    let mut land = [0.0f32; 64];
-    let mut detail = [0.0f32; 64];
-    let mut micro = [0.0f32; 64];
-    let mut ridge1 = [0.0f32; 64];
-    let mut ridge2 = [0.0f32; 64];
-    let mut flat = [0.0f32; 64];
-    let mut dune = [0.0f32; 64];
-    let mut hill = [0.0f32; 64];
+    let mut temp = [0.0f32; PLACES];
+    let mut moisture = [0.0f32; PLACES];
+    let mut land = [0.0f32; PLACES];
+    let mut detail = [0.0f32; PLACES];
+    let mut micro = [0.0f32; PLACES];
+    let mut ridge1 = [0.0f32; PLACES];
+    let mut ridge2 = [0.0f32; PLACES];
+    let mut flat = [0.0f32; PLACES];
+    let mut dune = [0.0f32; PLACES];
+    let mut hill = [0.0f32; PLACES];
     let wz = along(o.oz, z);
     let v = of_i32(wz) + w.seed_offset;
     climate_rows(v, n, floors, eases, &mut temp, &mut moisture);
@@ -95,9 +97,9 @@ pub fn note_tops(w: World, o: Frame, heights: &mut [u16], biomes: &mut [u8])
     requires { ⌜ Tall w × Near o × (o .size * o .size ≤ length (now heights)) × (o .size * o .size ≤ length (now biomes)) ⌝ }
     ensures { λ _. ⌜ (now (heights .exit) ≡ tab (o .size * o .size) (columnHeight w o) ++ drop (o .size * o .size) (now (heights .entry))) × (now (biomes .exit) ≡ tab (o .size * o .size) (columnBiome w o) ++ drop (o .size * o .size) (now (biomes .entry))) ⌝ }
 {
-    let mut xs = [0.0f32; 64];
-    let mut floors = [0u32; 2304];
-    let mut eases = [0.0f32; 2304];
+    let mut xs = [0.0f32; PLACES];
+    let mut floors = [0u32; TABLE];
+    let mut eases = [0.0f32; TABLE];
     note_xs(w, o, &mut xs);
     note_rows(&xs, o.size, &mut floors, &mut eases);
     note_each(w, o, &xs, &floors, &eases, heights, biomes);

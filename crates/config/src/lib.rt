@@ -5,6 +5,24 @@ ghost use mathlib.Core.Bool.{true};
 ghost use Prim.Native.Nat.{_<_};
 ghost use lib.Signed.{mag};
 
+pub mod bounds;
+pub mod refusals;
+
+use crate::bounds::HEIGHT_LEAST;
+use crate::bounds::HEIGHT_MOST;
+use crate::bounds::PLACE_LEAST;
+use crate::bounds::PLACE_MOST;
+use crate::bounds::SEA_LEAST;
+use crate::bounds::SEA_MOST;
+use crate::bounds::SEED_MOST;
+use crate::bounds::SIZE_MOST;
+use crate::refusals::OK;
+use crate::refusals::PLACE;
+use crate::refusals::SEA_LEVEL;
+use crate::refusals::SEED;
+use crate::refusals::SIZE;
+use crate::refusals::WORLD_HEIGHT;
+
 // As in the Rust; the limits are narrower (SCOPE 2.1).
 #[repr(C)]
 pub struct TerrainConfig {
@@ -33,6 +51,9 @@ pub struct Header {
     pub cz: i64,
 }
 
+// The greatest size, as a first line's number is tested against it.
+const SIZE_TOP: i64 = SIZE_MOST as i64;
+
 fn in_range(lo: i64, z: i64, hi: i64) -> bool
     ensures { λ r. ⌜ r ≡ within lo z hi ⌝ }
 {
@@ -46,7 +67,7 @@ fn place_fits(size: i64, c: i64) -> bool
 {
     let first = c * size;
     let last = first + (size - 1);
-    (first >= -1000000) & (last <= 1000000)
+    (first >= PLACE_LEAST) & (last <= PLACE_MOST)
 }
 
 fn places_fit(h: Header) -> bool
@@ -65,19 +86,19 @@ pub fn limits(h: Header) -> u32
     requires { ⌜ Narrow h ⌝ }
     ensures { λ r. ⌜ r ≡ limitRefusal h ⌝ }
 {
-    if !in_range(1, h.chunk_size, 64) {
-        return 1;
+    if !in_range(1, h.chunk_size, SIZE_TOP) {
+        return SIZE;
     }
-    if !in_range(0, h.seed, 65535) {
-        return 2;
+    if !in_range(0, h.seed, SEED_MOST) {
+        return SEED;
     }
-    if !in_range(-4096, h.sea_level, 4096) {
-        return 3;
+    if !in_range(SEA_LEAST, h.sea_level, SEA_MOST) {
+        return SEA_LEVEL;
     }
-    if !in_range(2, h.world_height_blocks, 4096) {
-        return 4;
+    if !in_range(HEIGHT_LEAST, h.world_height_blocks, HEIGHT_MOST) {
+        return WORLD_HEIGHT;
     }
-    if places_fit(h) { 0 } else { 5 }
+    if places_fit(h) { OK } else { PLACE }
 }
 
 // The same for settings and a place. A size that i64 does not hold is refused before it is converted.
@@ -85,8 +106,8 @@ pub fn config_limits(config: TerrainConfig, pos: ChunkPos) -> u32
     ensures { λ r. ⌜ r ≡ limitRefusal (configHeader config pos) ⌝ }
 {
     let size = config.chunk_size;
-    if size > 64 {
-        return 1;
+    if size > SIZE_MOST {
+        return SIZE;
     }
     limits(Header {
         seed: config.seed as i64,

@@ -1,7 +1,7 @@
 // The cells of a chunk: a cube of size × size × size ids in a borrowed slice, x varying fastest.
 ghost use mathlib.Core.Path.{_≡_};
 ghost use Prim.Native.Nat.{_≤_, _<_};
-ghost use Rattle.grid.specs.Cube.{Cube, cellIndex, putAt, seeAt};
+ghost use Rattle.grid.specs.Cube.{Cube, cellIndex, inside, putAt, seeAt};
 ghost use Rattle.grid.specs.Count.{nonAirCount};
 
 // Where cell (x, y, z) stands in the slice.
@@ -10,6 +10,19 @@ pub fn cell_index(size: usize, x: usize, y: usize, z: usize) -> usize
     ensures { λ r. ⌜ r ≡ cellIndex size x y z ⌝ }
 {
     x + y * size + z * size * size
+}
+
+// Whether a cell lies in the chunk.
+pub fn is_inside(size: usize, x: usize, y: usize, z: usize) -> bool
+    ensures { λ r. ⌜ r ≡ inside size x y z ⌝ }
+{
+    if x >= size {
+        return false;
+    }
+    if y >= size {
+        return false;
+    }
+    z < size
 }
 
 // Puts v at a cell of the chunk; outside it nothing changes.

@@ -9,9 +9,11 @@ ghost use Rattle.ground.specs.Ground.{worldOf, frameOf, generateRefusal,
 use config::ChunkPos;
 use config::TerrainConfig;
 use config::config_limits;
-use ground_chunk::lay_chunk;
+use config::refusals::LENGTH;
+use config::refusals::OK;
 use ground_cell::world::Frame;
 use ground_cell::world::World;
+use ground_chunk::lay_chunk;
 
 // The number of cells that are not air, or the number of the refusal.
 pub enum Generated {
@@ -56,14 +58,14 @@ fn refusal_of(config: TerrainConfig, pos: ChunkPos, n: usize) -> u32
     ensures { λ r. ⌜ r ≡ generateRefusal config pos n ⌝ }
 {
     let f = config_limits(config, pos);
-    if f != 0 {
+    if f != OK {
         return f;
     }
     let size = config.chunk_size;
     if n == size * size * size {
-        return 0;
+        return OK;
     }
-    6
+    LENGTH
 }
 
 // Lays the ground of a chunk into borrowed cells.
@@ -71,7 +73,7 @@ pub fn generate(config: TerrainConfig, pos: ChunkPos, cells: &mut [u16]) -> Gene
     ensures { λ r. ⌜ outcome (saysGenerated r) (now (cells .exit)) ≡ generateDoes config pos (now (cells .entry)) ⌝ }
 {
     let f = refusal_of(config, pos, cells.len());
-    if f != 0 {
+    if f != OK {
         return Generated::Refused(f);
     }
     let w = world_of(config);

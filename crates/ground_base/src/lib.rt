@@ -8,10 +8,13 @@ ghost use Rattle.cave_tables.specs.Coords.{coordOf};
 ghost use Rattle.ground_rows.specs.Rows.{Lent};
 ghost use Rattle.ground_cell.specs.World.{Tall, Near};
 ghost use Rattle.ground_cell.specs.Base.{Noted, baseCells};
+use cave_rows::EDGES;
+use cave_tables::TABLE;
 use cave_tables::note_coords;
-use ground_rows::lay_row;
 use ground_cell::world::Frame;
 use ground_cell::world::World;
+use ground_rows::lay_row;
+use noise_tables::PLACES;
 
 // Lays every row, by the tops that the caches hold.
 fn lay_rows(
@@ -49,10 +52,10 @@ fn lay_rows(
     }
 }
 
-fn no_flags() -> [bool; 64]
+fn no_flags() -> [bool; PLACES]
     ensures { λ r. ⌜ length r ≡ 64 ⌝ }
 {
-    [false; 64]
+    [false; PLACES]
 }
 
 // Lays every cell. The chunk's coordinates are noted once for all rows.
@@ -60,12 +63,12 @@ pub fn lay_base(w: World, o: Frame, heights: &[u16], biomes: &[u8], cells: &mut 
     requires { ⌜ Tall w × Near o × Noted w o (now heights) (now biomes) × Cube (o .size) (now cells) ⌝ }
     ensures { λ _. ⌜ now (cells .exit) ≡ baseCells w o ⌝ }
 {
-    let mut floors = [0u32; 1728];
-    let mut eases = [0.0f32; 1728];
-    let mut edges = [0.0f32; 2048];
+    let mut floors = [0u32; TABLE];
+    let mut eases = [0.0f32; TABLE];
+    let mut edges = [0.0f32; EDGES];
     let mut cuts = no_flags();
     let mut flags = no_flags();
-    let mut ts = [0.0f32; 64];
+    let mut ts = [0.0f32; PLACES];
     note_coords(o, &mut ts, &mut floors, &mut eases);
     lay_rows(
         w,

@@ -9,12 +9,13 @@ ghost use Rattle.ground_cell.specs.World.{Near};
 ghost use Rattle.ground_boulders.specs.Signs.{plus, wholePart};
 ghost use Rattle.ground_boulders.specs.Boulders.{insetIn, pillarOf, boulderHash, placeBoulder, boulderColumn, bouldersOf, topIn};
 use grid::put;
-use noise::hash2;
 use ground_cell::block::STONE;
 use ground_cell::world::Frame;
+use ground_cell::world::MOUNTAIN;
 use ground_cell::world::Top;
 use ground_cell::world::along;
 use ground_cell::world::local_y;
+use noise::hash2;
 use num::float::to_i32;
 use num::wrap::wrapping_add;
 use num::wrap::wrapping_mul;
@@ -72,7 +73,7 @@ fn boulder_at(cells: &mut [u16], size: usize, oy: i32, t: Top, x: usize, z: usiz
     ensures { λ _. ⌜ now (cells .exit) ≡ placeBoulder size oy t x z h (now (cells .entry)) ⌝ }
 {
     let b = t.biome;
-    if b != 1 {
+    if b != MOUNTAIN {
         return;
     }
     if h > 0.006 {

@@ -1,4 +1,4 @@
-// Block ids, and which block a cell below the surface is.
+// Block ids, and which block a cell below the surface is: `ground_blocks` re-exported.
 pub use ground_blocks::AIR;
 pub use ground_blocks::DIRT;
 pub use ground_blocks::GRASS;

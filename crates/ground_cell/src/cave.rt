@@ -1,3 +1,3 @@
-// Where the ground is hollow.
+// Where the ground is hollow: `cave_plain` re-exported.
 pub use cave_plain::cave;
 pub use cave_plain::ravine_with;

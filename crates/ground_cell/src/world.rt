@@ -48,27 +48,36 @@ pub fn local_y(o: i32, y: usize, size: usize) -> usize
     if d < 0 { size } else { d as usize }
 }
 
+// The numbers of the biomes.
+pub const DESERT: u8 = 0;
+
+pub const MOUNTAIN: u8 = 1;
+
+pub const FOREST: u8 = 2;
+
+pub const PLAINS: u8 = 3;
+
 pub fn biome_number(b: Biome) -> u8
     ensures { λ r. ⌜ r ≡ biomeNumber b ⌝ }
 {
     match b {
-        Biome::Desert => 0,
-        Biome::Mountain => 1,
-        Biome::Forest => 2,
-        Biome::Plains => 3,
+        Biome::Desert => DESERT,
+        Biome::Mountain => MOUNTAIN,
+        Biome::Forest => FOREST,
+        Biome::Plains => PLAINS,
     }
 }
 
 fn biome_numbered(n: u8) -> Biome
     ensures { λ r. ⌜ r ≡ biomeNumbered n ⌝ }
 {
-    if n == 0 {
+    if n == DESERT {
         return Biome::Desert;
     }
-    if n == 1 {
+    if n == MOUNTAIN {
         return Biome::Mountain;
     }
-    if n == 2 {
+    if n == FOREST {
         return Biome::Forest;
     }
     Biome::Plains

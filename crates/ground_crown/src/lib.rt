@@ -6,10 +6,10 @@ ghost use lib.Signed.{mag};
 ghost use Rattle.grid.specs.Cube.{Cube};
 ghost use Rattle.ground_crown.specs.Crown.{Canopy, leafAt, offsetOr, squareGap, leafHash, hasLeaf, leafStep, layerOf, leafRadius, canopyOf};
 use grid::cell_index;
-use noise::hash2;
 use ground_cell::block::AIR;
 use ground_cell::block::LEAVES;
 use ground_cell::world::local_y;
+use noise::hash2;
 use num::wrap::wrapping_add;
 
 // A leaf, where there is air.

@@ -8,14 +8,14 @@ ghost use Rattle.ground_cell.specs.World.{Tall, Near};
 ghost use Rattle.ground_cell.specs.Base.{Noted};
 ghost use Rattle.ground_lines.specs.Lines.{DoneTo, Flagged};
 ghost use Rattle.ground_rows.specs.Rows.{Lent, Ready, Begun};
+use cave_ravines::note_cuts;
+use cave_rows::first_layers;
+use cave_rows::hollow_row;
+use ground_cell::world::Frame;
+use ground_cell::world::World;
 use ground_lines::below_level;
 use ground_lines::lay_line;
 use ground_lines::row_top;
-use cave_rows::first_layers;
-use cave_rows::hollow_row;
-use cave_ravines::note_cuts;
-use ground_cell::world::Frame;
-use ground_cell::world::World;
 
 // Says which cells at y and z are hollow, where caves can be: between the levels lo and hi. The edges have the layers of
 // the level `from`; the answer is the level whose layers they have then.

@@ -10,19 +10,21 @@ ghost use Rattle.grid.specs.Cube.{Cube, seeAt};
 ghost use Rattle.ground_cell.specs.World.{Near, localY};
 ghost use Rattle.ground_trees.specs.Signs.{plus};
 ghost use Rattle.ground_trees.specs.Features.{Canopy, growOf, plantOf, treeHash, varietyOf, treeGrows, isGiant, placeTree, treeColumn, treesOf, topIn};
+use grid::see;
 use ground_boulders::inset;
 use ground_boulders::pillar;
 use ground_boulders::whole;
-use ground_crown::canopy;
-use grid::see;
-use noise::hash2;
 use ground_cell::block::GRASS;
 use ground_cell::block::LOG;
 use ground_cell::block::gap;
+use ground_cell::world::FOREST;
 use ground_cell::world::Frame;
+use ground_cell::world::PLAINS;
 use ground_cell::world::Top;
 use ground_cell::world::along;
 use ground_cell::world::local_y;
+use ground_crown::canopy;
+use noise::hash2;
 use num::wrap::wrapping_add;
 use num::wrap::wrapping_mul;
 
@@ -88,13 +90,13 @@ fn variety(wx: i32, wz: i32) -> f32
 fn tree_grows(b: u8, h: f32) -> bool
     ensures { λ r. ⌜ r ≡ treeGrows b h ⌝ }
 {
-    if b == 2 {
+    if b == FOREST {
         if h > 0.025 {
             return false;
         }
         return true;
     }
-    if b == 3 {
+    if b == PLAINS {
         if h > 0.003 {
             return false;
         }
@@ -106,7 +108,7 @@ fn tree_grows(b: u8, h: f32) -> bool
 fn giant(b: u8, v: f32) -> bool
     ensures { λ r. ⌜ r ≡ isGiant b v ⌝ }
 {
-    (b == 2) & (v < 0.08)
+    (b == FOREST) & (v < 0.08)
 }
 
 // Whether a column is no more than 2 above the sea.

@@ -1,5 +1,6 @@
-// The four edits of a session over a record lent by reference (SCOPE 7.7), for a host that keeps one: each hands the record to the call
-// by value and stores what comes back. Exported to C as they are; one equation for the record, the reply, the cells and the journal.
+// The four edits of a session over a record lent by reference (SCOPE 7.7), for a host that keeps one: each hands the record to the call by
+// value and stores what comes back. Exported to C as they are; include/perillahinge.h says what each is for. One equation for the record, the
+// reply, the cells and the journal.
 ghost use mathlib.Core.Path.{_≡_};
 ghost use Rattle.session_calls.specs.Calls.{outcome, setDoes, columnDoes, batchDoes, undoDoes};
 use session_calls::Reply;

@@ -1,5 +1,6 @@
-// The C boundary. Each function hands its arguments to the library's call and answers in numbers: a refusal's number (SCOPE 10), 0 where
-// the call is accepted, its line, and its values. The session's edits, over a record lent by reference, are in `by_reference`.
+// The C boundary: include/perillahinge.h says what each function is for. Each hands its arguments to the library's call and answers in numbers:
+// a refusal's number (SCOPE 10), 0 where the call is accepted, its line, and its values. The session's edits, over a record lent by reference,
+// are in `by_reference`.
 ghost use mathlib.Core.Path.{_≡_};
 ghost use lib.ListN.{length};
 ghost use Rattle.noise.specs.Hash.{hash2₃₂, hash3₃₂};
@@ -15,10 +16,11 @@ ghost use Rattle.host_starts.specs.Sessions.{begunInC, freshInC, resumedInC, re
 
 mod by_reference;
 
-use host_answers::Answer;
-use host_answers::BatchAnswer;
 use config::ChunkPos;
 use config::TerrainConfig;
+use config::refusals::FACE;
+use host_answers::Answer;
+use host_answers::BatchAnswer;
 use host_starts::Start;
 
 #[no_mangle]
@@ -158,9 +160,14 @@ pub extern "C" fn pl_extract_border(
     ensures { λ r. ⌜ borderAnswered r (now (border .exit)) ≡ borderInCDoes n size (now (cells .entry)) (now (border .entry)) ⌝ }
 {
     if n > 5 {
-        return host_answers::refused(99);
+        return host_answers::refused(FACE);
     }
-    host_answers::border_answer(chunk_border::extract_border(cells, size, host_answers::face(n), border))
+    host_answers::border_answer(chunk_border::extract_border(
+        cells,
+        size,
+        host_answers::face(n),
+        border,
+    ))
 }
 
 #[no_mangle]

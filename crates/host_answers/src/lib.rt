@@ -15,8 +15,9 @@ use chunk::Flag;
 use chunk_batch::BatchReply;
 use chunk_border::Extracted;
 use chunk_border::Face;
-use ground::Generated;
 use chunk_tally::Listed;
+use config::refusals::OK;
+use ground::Generated;
 
 // The answer of a call on cells: the number of its refusal or 0, its line, and its value.
 #[repr(C)]
@@ -40,7 +41,7 @@ fn accepted(value: usize) -> Answer
     ensures { λ r. ⌜ r ≡ answer 0 0 value ⌝ }
 {
     Answer {
-        number: 0,
+        number: OK,
         line: 0,
         value,
     }
@@ -109,7 +110,7 @@ pub fn batch_answer(a: BatchReply) -> BatchAnswer
 {
     match a {
         BatchReply::Written { written, count } => BatchAnswer {
-            number: 0,
+            number: OK,
             line: 0,
             written,
             count,

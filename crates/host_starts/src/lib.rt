@@ -1,11 +1,12 @@
 // The answer of a fresh session (SCOPE 7.2) and of reopening (SCOPE 9.3) in numbers, for the C boundary.
 ghost use mathlib.Core.Path.{_≡_};
 ghost use Rattle.host_starts.specs.Sessions.{started, notStarted, freshStart, reopenStart};
+use config::ChunkPos;
+use config::TerrainConfig;
+use config::refusals::OK;
 use session_calls::Fresh;
 use session_calls::Reopened;
 use session_calls::Session;
-use config::ChunkPos;
-use config::TerrainConfig;
 
 // The answer of a fresh session or of reopening: the record, the number and line of a refusal, and of the journal the number of
 // whole lines and of trailing bytes.
@@ -23,7 +24,7 @@ fn begin(session: Session, lines: usize, trailing: usize) -> Start
 {
     Start {
         session,
-        number: 0,
+        number: OK,
         line: 0,
         lines,
         trailing,

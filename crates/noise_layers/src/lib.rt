@@ -6,8 +6,18 @@ ghost use Rattle.noise_tables.specs.Row.{Row};
 ghost use Rattle.noise_layers.specs.Layers.{edgeAt, Laid, Room, Layered, rowMore};
 use noise::hash3;
 use noise::lerp;
+use noise_tables::PLACES;
 use num::wrap::of_bits;
 use num::wrap::wrapping_add;
+
+// Where the rows of an octave's layer begin, behind the first, which is at iy and iz; and how long a layer is.
+const NEXT_Y: usize = PLACES;
+
+const NEXT_Z: usize = 2 * PLACES;
+
+const NEXT_YZ: usize = 3 * PLACES;
+
+pub const LAYER: usize = 4 * PLACES;
 
 // Between the hashes along x at iy and iz, for n places that the tables tell of from base on; written from `to` on. The
 // two hashes are kept until a place lies in the next cube.
@@ -58,12 +68,12 @@ pub fn layer_rows(
     let iz = of_bits(floors[kz]);
     let jy = wrapping_add(iy, 1);
     let jz = wrapping_add(iz, 1);
-    let base = o * 64;
-    let to = o * 256;
+    let base = o * PLACES;
+    let to = o * LAYER;
     edge_row(iy, iz, base, to, n, floors, eases, edges);
-    edge_row(jy, iz, base, to + 64, n, floors, eases, edges);
-    edge_row(iy, jz, base, to + 128, n, floors, eases, edges);
-    edge_row(jy, jz, base, to + 192, n, floors, eases, edges);
+    edge_row(jy, iz, base, to + NEXT_Y, n, floors, eases, edges);
+    edge_row(iy, jz, base, to + NEXT_Z, n, floors, eases, edges);
+    edge_row(jy, jz, base, to + NEXT_YZ, n, floors, eases, edges);
 }
 
 // Adds octave o to the sums of a row, between its four rows: along y, then along z.
@@ -82,12 +92,12 @@ pub fn add_row(
 {
     let fy = eases[ky];
     let fz = eases[kz];
-    let to = o * 256;
+    let to = o * LAYER;
     let mut i = 0;
     while i < n {
         let j = to + i;
-        let low = lerp(edges[j], edges[j + 64], fy);
-        let high = lerp(edges[j + 128], edges[j + 192], fy);
+        let low = lerp(edges[j], edges[j + NEXT_Y], fy);
+        let high = lerp(edges[j + NEXT_Z], edges[j + NEXT_YZ], fy);
         sums[i] = sums[i] + lerp(low, high, fz) * amp;
         i += 1;
     }

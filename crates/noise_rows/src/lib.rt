@@ -10,6 +10,7 @@ ghost use Rattle.noise_rows.specs.Sums.{Run, Added, inSquare, noiseAt, z
 use noise::hash2;
 use noise::lerp;
 use noise::smooth;
+use noise_tables::PLACES;
 use num::float::floor_part;
 use num::wrap::of_bits;
 use num::wrap::wrapping_add;
@@ -128,7 +129,7 @@ pub fn divide(max: f32, n: usize, vals: &mut [f32])
     }
 }
 
-// `fbm2d` at each place of a row at y. The tables hold the row's octaves from base on, 64 places each.
+// `fbm2d` at each place of a row at y. The tables hold the row's octaves from base on, PLACES each.
 pub fn fbm_row(
     y: f32,
     octaves: u32,
@@ -151,7 +152,7 @@ pub fn fbm_row(
         max += amp;
         amp *= 0.5;
         freq *= 2.0;
-        at += 64;
+        at += PLACES;
     }
     divide(max, n, vals);
 }

@@ -1,2 +1,3 @@
 pub mod Row
 pub mod Places
+pub mod Scaled

@@ -4,9 +4,14 @@ ghost use mathlib.Core.Path.{_≡_};
 ghost use Prim.Native.Nat.{_+_, _≤_};
 ghost use lib.ListN.{length};
 ghost use Rattle.noise_tables.specs.Places.{entryOf, Told};
+ghost use Rattle.noise_tables.specs.Scaled.{scaledBy};
+use config::bounds::SIZE_MOST;
 use noise::smooth;
 use num::float::floor_part;
 use num::wrap::bits_of;
+
+// Places of a row, at most: it is as long as a chunk. The tables hold so many of each octave.
+pub const PLACES: usize = SIZE_MOST;
 
 // The bits of a whole part, and a smoothed fraction.
 pub struct Entry {
@@ -22,6 +27,22 @@ pub fn entry_of(x: f32) -> Entry
     let at = bits_of(i);
     let ease = smooth(x - p.f);
     Entry { at, ease }
+}
+
+// A coordinate at octave k of its field: times 1, 2, 4 or 8.
+pub fn scaled(k: usize, t: f32) -> f32
+    ensures { λ r. ⌜ r ≡ scaledBy k t ⌝ }
+{
+    if k == 0 {
+        return t * 1.0;
+    }
+    if k == 1 {
+        return t * 2.0;
+    }
+    if k == 2 {
+        return t * 4.0;
+    }
+    t * 8.0
 }
 
 // Notes n places from base on.

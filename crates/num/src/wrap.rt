@@ -1,4 +1,4 @@
-// 32-bit integers modulo 2^32.
+// 32-bit integers modulo 2^32: `num_wrap` re-exported.
 pub use num_wrap::bits_of;
 pub use num_wrap::fold_13;
 pub use num_wrap::fold_16;

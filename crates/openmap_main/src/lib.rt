@@ -2,28 +2,32 @@
 // A read or a write that fails is reported in a line on standard error (SCOPE 11.5); of a journal that was not read to its end nothing is opened.
 ghost use mathlib.Core.Path.{_≡_};
 ghost use lib.ListN.{length};
+use config::bounds::JOURNAL_MOST;
 use openmap_io::Reading;
 use openmap_io::read_journal;
 use openmap_io::write_text;
+use openmap_report::CELLS;
+use openmap_report::TEXT_BYTES;
 
 // One byte more than a journal may have, so that a longer one shows.
-fn journal_room() -> [u8; 32769]
+const JOURNAL_BYTES: usize = JOURNAL_MOST + 1;
+
+fn journal_room() -> [u8; JOURNAL_BYTES]
     ensures { λ r. ⌜ 32769 ≡ length r ⌝ }
 {
-    [0; 32769]
+    [0; JOURNAL_BYTES]
 }
 
-fn cells_room() -> [u16; 4096]
+fn cells_room() -> [u16; CELLS]
     ensures { λ r. ⌜ 4096 ≡ length r ⌝ }
 {
-    [0; 4096]
+    [0; CELLS]
 }
 
-// A text has at most 24,919 bytes.
-fn text_room() -> [u8; 25000]
+fn text_room() -> [u8; TEXT_BYTES]
     ensures { λ r. ⌜ 25000 ≡ length r ⌝ }
 {
-    [0; 25000]
+    [0; TEXT_BYTES]
 }
 
 // A line on standard error, with the system's words.

@@ -10,9 +10,18 @@ ghost use Rattle.openmap_report.specs.Text.{answerText};
 ghost use Rattle.openmap_lines.specs.Appended.{Appended};
 ghost use Rattle.openmap_report.specs.Fits.{Tells};
 ghost use Rattle.openmap_report.specs.Report.{lentCells, reported, reportDoes};
-use session_calls::Reopened;
 use config::Header;
+use config::bounds::NUMBERS_MOST;
 use journal_open::Opening;
+use session_calls::Reopened;
+
+// The greatest size that is printed. With a greater one all cells are lent, which are too few for it.
+const PRINTED_MOST: usize = 16;
+
+// Cells and bytes that `report` asks for. A text has at most 24,919 bytes.
+pub const CELLS: usize = PRINTED_MOST * PRINTED_MOST * PRINTED_MOST;
+
+pub const TEXT_BYTES: usize = 25000;
 
 // The text of an answer, with the cells that the reopening left.
 fn put_answer(out: &mut [u8], cells: &[u16], answer: Reopened) -> usize
@@ -40,20 +49,20 @@ fn lent_for(header: Header) -> usize
     ensures { λ r. ⌜ r ≡ pick (leb (natAbs (header .«chunk_size»)) 16) (cube (natAbs (header .«chunk_size»))) 4096 ⌝ }
 {
     let size = header.chunk_size as usize;
-    if size <= 16 {
+    if size <= PRINTED_MOST {
         return size * size * size;
     }
-    4096
+    CELLS
 }
 
 // How many cells are lent, from the journal's first line.
 fn lent_cells(journal: &[u8], held: usize) -> usize
     ensures { λ r. ⌜ (r ≡ lentCells (now (journal .entry)) held) × (r ≤ 4096) ⌝ }
 {
-    let mut words = [0u64; 66];
+    let mut words = [0u64; NUMBERS_MOST];
     let opening = journal_open::open_journal(journal, held, &mut words);
     match opening {
-        Opening::Refused { number: _, line: _ } => 4096,
+        Opening::Refused { number: _, line: _ } => CELLS,
         Opening::Opens {
             header,
             committed: _,
@@ -67,10 +76,10 @@ fn lent_cells(journal: &[u8], held: usize) -> usize
 pub fn report(journal: &[u8], held: usize, cells: &mut [u16], out: &mut [u8]) -> usize
     ensures { λ r. ⌜ reported r (now (cells .exit)) (now (out .exit)) ≡ reportDoes (now (journal .entry)) held (now (cells .entry)) (now (out .entry)) ⌝ }
 {
-    if cells.len() < 4096 {
+    if cells.len() < CELLS {
         return 0;
     }
-    if out.len() < 25000 {
+    if out.len() < TEXT_BYTES {
         return 0;
     }
     let n = lent_cells(journal, held);

@@ -1,12 +1,12 @@
--- `column_tables::scaled` meets its contract. Assumes nothing.
+-- `noise_tables::scaled` meets its contract. Assumes nothing.
 use mathlib.Core.Path.{sym, ap}
 use Prim.Native.Nat.{ℕ}
 use lib.Ieee.{ofBits}
 use borrow.Author.Tests.{ne-eqb}
 use Rattle.num.specs.Num.{nearest}
-use Rattle.column_tables.specs.Coords.{scaledBy}
-use Rattle.column_tables.proofs.scaled.Statement.{statement}
-use Rattle.column_tables.proofs.scaled.Tie as tie
+use Rattle.noise_tables.specs.Scaled.{scaledBy}
+use Rattle.noise_tables.proofs.scaled.Statement.{statement}
+use Rattle.noise_tables.proofs.scaled.Tie as tie
 
 returns : tie.Need-returns
 unfolding scaledBy nearest ofBits
