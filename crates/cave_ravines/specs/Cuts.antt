@@ -14,7 +14,7 @@ use Rattle.noise_tables.specs.Row.{at, Flags}
 use Rattle.noise_tables.specs.Places.{Tells, Noted}
 use Rattle.noise_rows.specs.Sums.{freqAt, Lies, Summed}
 use Rattle.noise_tables.specs.Scaled.{scaledBy}
-use Rattle.cave_tables.specs.Coords.{xOf, coordOf}
+use Rattle.cave_tables.specs.Coords.{xOf, caveCoord}
 use Rattle.ground_cell.specs.Caves.{ravineWith, ravineHere}
 use Rattle.ground_cell.specs.declared.world.Frame.{Frame}
 
@@ -31,14 +31,14 @@ pub record Cuts (f : Frame) (z : ℕ) (cuts : List Bool) : Type 0 where
 abbrev larger : Frame → ℕ → Float
 larger f i = real (f .ox +ℤ pos i) *f nearest 1 100
 
-octave-is : (f : Frame) (i k : ℕ) → k < 3 → coordOf f (8 + k) i ≡ mul binary32 (larger f i) (freqAt k)
-unfolding coordOf xOf scaledBy freqAt nearest mul
+octave-is : (f : Frame) (i k : ℕ) → k < 3 → caveCoord f (8 + k) i ≡ mul binary32 (larger f i) (freqAt k)
+unfolding caveCoord xOf scaledBy freqAt nearest mul
 octave-is f i zero h = refl
 octave-is f i (suc zero) h = refl
 octave-is f i (suc (suc zero)) h = refl
 octave-is f i (suc (suc (suc k))) h = absurd (omega arith)
 
-pub row-lies : (f : Frame) (floors : List ℕ) (eases : List Float) → Noted (f .size) 27 (coordOf f) floors eases → Lies (larger f) 3 512 (f .size) floors eases
+pub row-lies : (f : Frame) (floors : List ℕ) (eases : List Float) → Noted (f .size) 27 (caveCoord f) floors eases → Lies (larger f) 3 512 (f .size) floors eases
 row-lies f floors eases n = record {
   tells = λ (k i : ℕ) h l.
       let e : (8 + k) * 64 + i ≡ 512 + k * 64 + i = omega arith in
@@ -48,7 +48,7 @@ row-lies f floors eases n = record {
 
 -- a row that is cut by its noise is cut where the ravines are
 pub cuts-are : (f : Frame) (z : ℕ) (floors : List ℕ) (eases vals : List Float) (cuts : List Bool) (v : Float) → v ≡ real (f .oz +ℤ pos z)
-    → Noted (f .size) 27 (coordOf f) floors eases → Summed (v *f nearest 1 100) 3 512 (f .size) floors eases vals
+    → Noted (f .size) 27 (caveCoord f) floors eases → Summed (v *f nearest 1 100) 3 512 (f .size) floors eases vals
     → Flags (f .size) (cutAt f v vals) cuts → Cuts f z cuts
 unfolding cutAt ravineHere
 cuts-are f z floors eases vals cuts v e n s c = record {

@@ -4,7 +4,7 @@ ghost use Prim.Native.Nat.{_≤_, _<_};
 ghost use lib.ListN.{length};
 ghost use Rattle.noise_tables.specs.Row.{Flags};
 ghost use Rattle.noise_tables.specs.Places.{Noted};
-ghost use Rattle.cave_tables.specs.Coords.{coordOf};
+ghost use Rattle.cave_tables.specs.Coords.{caveCoord};
 ghost use Rattle.ground_cell.specs.World.{Near};
 ghost use Rattle.cave_ravines.specs.Cuts.{cutAt, Cuts};
 use cave_tables::RAVINE_AT;
@@ -30,7 +30,7 @@ fn cut_row(f: Frame, z: f32, vals: &[f32], cuts: &mut [bool])
 
 // The tables are those of `cave_tables`.
 pub fn note_cuts(f: Frame, z: usize, floors: &[u32], eases: &[f32], cuts: &mut [bool])
-    requires { ⌜ Near f × (z < f .size) × Noted (f .size) 27 (coordOf f) (now floors) (now eases) × (length (now floors) ≡ 1728) × (length (now eases) ≡ 1728) × (f .size ≤ length (now cuts)) ⌝ }
+    requires { ⌜ Near f × (z < f .size) × Noted (f .size) 27 (caveCoord f) (now floors) (now eases) × (length (now floors) ≡ 1728) × (length (now eases) ≡ 1728) × (f .size ≤ length (now cuts)) ⌝ }
     ensures { λ _. ⌜ Cuts f z (now (cuts .exit)) ⌝ }
 {
     let n = f.size;

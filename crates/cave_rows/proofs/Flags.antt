@@ -9,7 +9,7 @@ use lib.Ieee.{Float}
 use Rattle.column.specs.Floats.{real}
 use Rattle.noise_tables.specs.Row.{at, Row, Flags}
 use Rattle.noise_tables.specs.Places.{Noted}
-use Rattle.cave_tables.specs.Coords.{coordOf}
+use Rattle.cave_tables.specs.Coords.{caveCoord}
 use Rattle.ground_cell.specs.declared.world.Frame.{Frame}
 use Rattle.cave_rows.specs.Layers.{AllLayers}
 use Rattle.cave_ravines.specs.Cuts.{Cuts}
@@ -17,7 +17,7 @@ use Rattle.cave_rows.specs.Fields.{sum2Of, sum3Of, judgedAt, Hollow}
 use Rattle.cave_rows.specs.Laws.{hollow-is}
 
 pub flags-told : (f : Frame) (y z : ℕ) (heights : List ℕ) (cuts : List Bool) (floors : List ℕ) (eases edges a b c : List Float) (flags : List Bool) (wy : Float)
-    → y < f .size → z < f .size → wy ≡ real (f .oy +ℤ pos y) → Cuts f z cuts → Noted (f .size) 27 (coordOf f) floors eases → AllLayers y z (f .size) floors eases edges
+    → y < f .size → z < f .size → wy ≡ real (f .oy +ℤ pos y) → Cuts f z cuts → Noted (f .size) 27 (caveCoord f) floors eases → AllLayers y z (f .size) floors eases edges
     → Row (f .size) (sum3Of 0 y z eases edges) a → Row (f .size) (sum3Of 3 y z eases edges) b → Row (f .size) (sum2Of 6 y z eases edges) c
     → Flags (f .size) (judgedAt wy (z * f .size) heights cuts a b c) flags → Hollow f y z heights flags
 unfolding judgedAt

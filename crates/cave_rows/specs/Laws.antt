@@ -13,7 +13,7 @@ use Rattle.column.specs.Floats.{_+f_, _-f_, _*f_, _/f_, nat, real, square}
 use Rattle.noise_tables.specs.Places.{Tells, Noted}
 use Rattle.noise_layers.specs.Noise.{octave-noise}
 use Rattle.noise_tables.specs.Scaled.{scaledBy}
-use Rattle.cave_tables.specs.Coords.{xOf, yOf, zOf, coordOf}
+use Rattle.cave_tables.specs.Coords.{xOf, yOf, zOf, caveCoord}
 use Rattle.ground_cell.specs.Caves.{spaghettiCave, largeCavern, ravineHere, ravineCut, carved}
 use Rattle.ground_cell.specs.declared.world.Frame.{Frame}
 use Rattle.cave_rows.specs.Layers.{levelAt, depthAt, AllLayers}
@@ -29,22 +29,22 @@ unfolding fbm octaves octave nearest mul add
 two at = refl
 
 module _ (f : Frame) (y z : ℕ) (floors : List ℕ) (eases edges : List Float) (hy : y < f .size) (hz : z < f .size)
-    (n : Noted (f .size) 27 (coordOf f) floors eases) (l : AllLayers y z (f .size) floors eases edges) where
-  level-told : (o : ℕ) → o < 8 → Tells floors eases (levelAt o y) (coordOf f (o + 11) y)
+    (n : Noted (f .size) 27 (caveCoord f) floors eases) (l : AllLayers y z (f .size) floors eases edges) where
+  level-told : (o : ℕ) → o < 8 → Tells floors eases (levelAt o y) (caveCoord f (o + 11) y)
   level-told o h =
       let e : (o + 11) * 64 + y ≡ levelAt o y = omega arith in
-      subst (λ (u : ℕ). Tells floors eases u (coordOf f (o + 11) y)) e (n .tells (o + 11) y (omega arith) hy)
+      subst (λ (u : ℕ). Tells floors eases u (caveCoord f (o + 11) y)) e (n .tells (o + 11) y (omega arith) hy)
 
-  depth-told : (o : ℕ) → o < 8 → Tells floors eases (depthAt o z) (coordOf f (o + 19) z)
+  depth-told : (o : ℕ) → o < 8 → Tells floors eases (depthAt o z) (caveCoord f (o + 19) z)
   depth-told o h =
       let e : (o + 19) * 64 + z ≡ depthAt o z = omega arith in
-      subst (λ (u : ℕ). Tells floors eases u (coordOf f (o + 19) z)) e (n .tells (o + 19) z (omega arith) hz)
+      subst (λ (u : ℕ). Tells floors eases u (caveCoord f (o + 19) z)) e (n .tells (o + 19) z (omega arith) hz)
 
   -- octave o at cell i is the noise at the octave's coordinates
   one-noise : (i : ℕ) → i < f .size → (o : ℕ) → o < 8
-      → oneOf o y z eases edges i ≡ noise3d₃₂ (coordOf f o i) (coordOf f (o + 11) y) (coordOf f (o + 19) z)
+      → oneOf o y z eases edges i ≡ noise3d₃₂ (caveCoord f o i) (caveCoord f (o + 11) y) (caveCoord f (o + 19) z)
   one-noise i k o h =
-      octave-noise floors eases edges (coordOf f o i) (coordOf f (o + 11) y) (coordOf f (o + 19) z) o (f .size) (levelAt o y) (depthAt o z) i k (l .each o h)
+      octave-noise floors eases edges (caveCoord f o i) (caveCoord f (o + 11) y) (caveCoord f (o + 19) z) o (f .size) (levelAt o y) (depthAt o z) i k (l .each o h)
       (n .tells o i (omega arith) k) (level-told o h) (depth-told o h)
 
   abbrev wx : ℕ → Float
@@ -58,7 +58,7 @@ module _ (f : Frame) (y z : ℕ) (floors : List ℕ) (eases edges : List Float) 
 
   field-a : (i : ℕ) → i < f .size
       → sum3Of 0 y z eases edges i /f nearest 7 4 ≡ fbm3d₃₂ (wx i *f nearest 4 100 +f nat 100) (wy *f nearest 6 100 +f nat 100) (wz *f nearest 4 100 +f nat 100) 3
-  unfolding sum3Of sum2Of fbm3d₃₂ along3 coordOf xOf yOf zOf scaledBy
+  unfolding sum3Of sum2Of fbm3d₃₂ along3 caveCoord xOf yOf zOf scaledBy
   field-a i k =
       ap₃ (λ (a b c : Float). (nat 0 +f a *f nat 1 +f b *f nearest 1 2 +f c *f nearest 1 4) /f nearest 7 4)
       (one-noise i k 0 (omega arith)) (one-noise i k 1 (omega arith)) (one-noise i k 2 (omega arith))
@@ -66,7 +66,7 @@ module _ (f : Frame) (y z : ℕ) (floors : List ℕ) (eases edges : List Float) 
 
   field-b : (i : ℕ) → i < f .size
       → sum3Of 3 y z eases edges i /f nearest 7 4 ≡ fbm3d₃₂ (wx i *f nearest 4 100 -f nat 200) (wy *f nearest 6 100 -f nat 200) (wz *f nearest 4 100 +f nat 300) 3
-  unfolding sum3Of sum2Of fbm3d₃₂ along3 coordOf xOf yOf zOf scaledBy
+  unfolding sum3Of sum2Of fbm3d₃₂ along3 caveCoord xOf yOf zOf scaledBy
   field-b i k =
       ap₃ (λ (a b c : Float). (nat 0 +f a *f nat 1 +f b *f nearest 1 2 +f c *f nearest 1 4) /f nearest 7 4)
       (one-noise i k 3 (omega arith)) (one-noise i k 4 (omega arith)) (one-noise i k 5 (omega arith))
@@ -74,7 +74,7 @@ module _ (f : Frame) (y z : ℕ) (floors : List ℕ) (eases edges : List Float) 
 
   field-c : (i : ℕ) → i < f .size
       → sum2Of 6 y z eases edges i /f nearest 3 2 ≡ fbm3d₃₂ (wx i *f nearest 15 1000) (wy *f nearest 25 1000) (wz *f nearest 15 1000) 2
-  unfolding sum2Of fbm3d₃₂ along3 coordOf xOf yOf zOf scaledBy
+  unfolding sum2Of fbm3d₃₂ along3 caveCoord xOf yOf zOf scaledBy
   field-c i k =
       ap₂ (λ (a b : Float). (nat 0 +f a *f nat 1 +f b *f nearest 1 2) /f nearest 3 2)
       (one-noise i k 6 (omega arith)) (one-noise i k 7 (omega arith))

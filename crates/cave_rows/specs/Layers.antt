@@ -15,7 +15,7 @@ use Rattle.noise_tables.specs.Row.{at}
 use Rattle.noise_layers.specs.Layers.{wholeAt, Layer, Layered}
 
 -- tables and edges have their lengths, and the level and the row lie in them
-pub record Room (y z n : ℕ) (floors : List ℕ) (eases edges : List Float) : Type 0 where
+pub record CaveRoom (y z n : ℕ) (floors : List ℕ) (eases edges : List Float) : Type 0 where
   pub level : y < 64
   pub depth : z < 64
   pub some : 0 < n

@@ -7,10 +7,10 @@ ghost use lib.ListN.{length};
 ghost use Rattle.noise_tables.specs.Row.{Row, Flags};
 ghost use Rattle.noise_tables.specs.Places.{Noted};
 ghost use Rattle.noise_rows.specs.Sums.{zeroAt};
-ghost use Rattle.cave_tables.specs.Coords.{coordOf};
+ghost use Rattle.cave_tables.specs.Coords.{caveCoord};
 ghost use Rattle.cave_ravines.specs.Cuts.{Cuts};
 ghost use Rattle.ground_cell.specs.World.{Near};
-ghost use Rattle.cave_rows.specs.Layers.{Room, AllLayers};
+ghost use Rattle.cave_rows.specs.Layers.{CaveRoom, AllLayers};
 ghost use Rattle.cave_rows.specs.Fields.{sum3Of, sum2Of, hollowOf, judgedAt, Hollow};
 use cave_tables::CAVE_B;
 use cave_tables::CAVERN;
@@ -34,7 +34,7 @@ pub const EDGES: usize = RAVINE * LAYER;
 
 // The layers of every octave at level y, for the row at z.
 pub fn first_layers(y: usize, z: usize, n: usize, floors: &[u32], eases: &[f32], edges: &mut [f32])
-    requires { ⌜ Room y z n (now floors) (now eases) (now edges) ⌝ }
+    requires { ⌜ CaveRoom y z n (now floors) (now eases) (now edges) ⌝ }
     ensures { λ _. ⌜ AllLayers y z n (now (floors .entry)) (now (eases .entry)) (now (edges .exit)) ⌝ }
 {
     let mut o = 0;
@@ -62,7 +62,7 @@ fn raise_layers(
     eases: &[f32],
     edges: &mut [f32],
 )
-    requires { ⌜ (from < 64) × Room y z n (now floors) (now eases) (now edges) × AllLayers from z n (now floors) (now eases) (now edges) ⌝ }
+    requires { ⌜ (from < 64) × CaveRoom y z n (now floors) (now eases) (now edges) × AllLayers from z n (now floors) (now eases) (now edges) ⌝ }
     ensures { λ _. ⌜ AllLayers y z n (now (floors .entry)) (now (eases .entry)) (now (edges .exit)) ⌝ }
 {
     let mut o = 0;
@@ -192,7 +192,7 @@ pub fn hollow_row(
     edges: &mut [f32],
     flags: &mut [bool],
 )
-    requires { ⌜ Near f × (from < f .size) × (y < f .size) × (z < f .size) × (f .size * f .size ≤ length (now heights)) × Cuts f z (now cuts) × Noted (f .size) 27 (coordOf f) (now floors) (now eases) × Room y z (f .size) (now floors) (now eases) (now edges) × AllLayers from z (f .size) (now floors) (now eases) (now edges) × (f .size ≤ length (now flags)) ⌝ }
+    requires { ⌜ Near f × (from < f .size) × (y < f .size) × (z < f .size) × (f .size * f .size ≤ length (now heights)) × Cuts f z (now cuts) × Noted (f .size) 27 (caveCoord f) (now floors) (now eases) × CaveRoom y z (f .size) (now floors) (now eases) (now edges) × AllLayers from z (f .size) (now floors) (now eases) (now edges) × (f .size ≤ length (now flags)) ⌝ }
     ensures { λ _. ⌜ AllLayers y z (f .size) (now (floors .entry)) (now (eases .entry)) (now (edges .exit)) × Hollow f y z (now (heights .entry)) (now (flags .exit)) ⌝ }
 {
     let n = f.size;

@@ -25,6 +25,6 @@ zOf o z =
     cond (ltb o 3) (scaledBy o (z *f nearest 4 100 +f nat 100)) (cond (ltb o 6) (scaledBy (o - 3) (z *f nearest 4 100 +f nat 300)) (scaledBy (o - 6) (z *f nearest 15 1000)))
 
 -- octave o of the tables at place i: along x, from 11 on along y, from 19 on along z
-unfoldable pub coordOf : Frame → ℕ → ℕ → Float
-coordOf f o i =
+unfoldable pub caveCoord : Frame → ℕ → ℕ → Float
+caveCoord f o i =
     cond (ltb o 11) (xOf o (real (f .ox +ℤ pos i))) (cond (ltb o 19) (yOf (o - 11) (real (f .oy +ℤ pos i))) (zOf (o - 19) (real (f .oz +ℤ pos i))))

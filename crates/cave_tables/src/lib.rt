@@ -7,7 +7,7 @@ ghost use lib.ListN.{length};
 ghost use Rattle.noise_tables.specs.Row.{Row};
 ghost use Rattle.noise_tables.specs.Places.{Noted};
 ghost use Rattle.ground_cell.specs.World.{Near};
-ghost use Rattle.cave_tables.specs.Coords.{xOf, yOf, zOf, coordOf};
+ghost use Rattle.cave_tables.specs.Coords.{xOf, yOf, zOf, caveCoord};
 use ground_cell::world::Frame;
 use ground_cell::world::along;
 use noise_tables::PLACES;
@@ -80,7 +80,7 @@ fn z_at(o: usize, z: f32) -> f32
 // Octave o at place i of its axis.
 fn coord(f: Frame, o: usize, i: usize) -> f32
     requires { ⌜ Near f × (i < 64) ⌝ }
-    ensures { λ r. ⌜ r ≡ coordOf f o i ⌝ }
+    ensures { λ r. ⌜ r ≡ caveCoord f o i ⌝ }
 {
     if o < LEVEL {
         let wx = along(f.ox, i);
@@ -96,7 +96,7 @@ fn coord(f: Frame, o: usize, i: usize) -> f32
 
 fn fill_coords(f: Frame, o: usize, ts: &mut [f32])
     requires { ⌜ Near f × (f .size ≤ length (now ts)) ⌝ }
-    ensures { λ _. ⌜ Row (f .size) (coordOf f o) (now (ts .exit)) ⌝ }
+    ensures { λ _. ⌜ Row (f .size) (caveCoord f o) (now (ts .exit)) ⌝ }
 {
     let n = f.size;
     let mut i = 0;
@@ -109,7 +109,7 @@ fn fill_coords(f: Frame, o: usize, ts: &mut [f32])
 // Fills the tables for a chunk; ts is room for the coordinates of an octave.
 pub fn note_coords(f: Frame, ts: &mut [f32], floors: &mut [u32], eases: &mut [f32])
     requires { ⌜ Near f × (f .size ≤ length (now ts)) × (length (now floors) ≡ 1728) × (length (now eases) ≡ 1728) ⌝ }
-    ensures { λ _. ⌜ Noted (f .size) 27 (coordOf f) (now (floors .exit)) (now (eases .exit)) ⌝ }
+    ensures { λ _. ⌜ Noted (f .size) 27 (caveCoord f) (now (floors .exit)) (now (eases .exit)) ⌝ }
 {
     let n = f.size;
     let mut o = 0;

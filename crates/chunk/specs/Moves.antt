@@ -13,10 +13,10 @@ use Rattle.basics.specs.Bools.{pick}
 use Rattle.grid.specs.Cube.{cellIndex, putAt, seeAt, steps}
 use Rattle.grid.specs.Grid.{index-lt, index-y, in-all, put-length, steps-length, steps-none, steps-more}
 use Rattle.grid.specs.Count.{nonAir, nonAirCount, count-most, non-air-most}
-use Rattle.grid_edits.specs.Edits.{columnHeight, layColumn, fillCells, setCells}
+use Rattle.grid_edits.specs.Edits.{clippedHeight, layColumn, fillCells, setCells}
 use borrow.Author.Tests.{ltb-true, leb-true, leb-false, le-leb, lt-leb}
 use Rattle.config.specs.Refusals.{passed, refusal, passed-on, passed-stop, refusal-none}
-use Rattle.config.specs.Answers.{accepted, refusedWith, is-refused, not-refused, outcome}
+use Rattle.config.specs.Answers.{accepted, refusedWith, is-refused, not-refused, cellsOutcome}
 use Rattle.chunk.specs.Calls.{edited}
 use Rattle.chunk.specs.Tests.{Inside, CellOk, cell-at, countOk, countRefusal, count-pass}
 
@@ -124,11 +124,11 @@ unfolding countRefusal
 same-refusal size count b a p q e = rw (same-ok size count b a p q e)
 
 pub edit-input :
-    (input size count : ℕ) (v c d : List ℕ) (k : ℕ) → k ≡ input → (k ≡ 0 → ⊥) → outcome (refusedWith k) c ≡ edited input size count v c d
+    (input size count : ℕ) (v c d : List ℕ) (k : ℕ) → k ≡ input → (k ≡ 0 → ⊥) → cellsOutcome (refusedWith k) c ≡ edited input size count v c d
 unfolding edited
 edit-input input size count v c d k i h =
     let e = passed-stop input (passed (countRefusal size count (nonAirCount c) (nonAirCount d)) ∷ []) (λ q. h (i ∙ q)) in
-    ap (λ (n : ℕ). outcome (refusedWith n) c) (i ∙ sym e) ∙ sym (is-refused _ _ _ (λ q. h (i ∙ sym e ∙ q)))
+    ap (λ (n : ℕ). cellsOutcome (refusedWith n) c) (i ∙ sym e) ∙ sym (is-refused _ _ _ (λ q. h (i ∙ sym e ∙ q)))
 
 module _ (input size count : ℕ) (v c d : List ℕ) (p q : ℕ) (none : input ≡ 0) (moves : nonAirCount d + p ≡ nonAirCount c + q) where
   second : refusal (passed input ∷ passed (countRefusal size count (nonAirCount c) (nonAirCount d)) ∷ []) ≡ refusal (passed (countRefusal size count p q) ∷ [])
@@ -136,18 +136,18 @@ module _ (input size count : ℕ) (v c d : List ℕ) (p q : ℕ) (none : input �
       passed-on input (passed (countRefusal size count (nonAirCount c) (nonAirCount d)) ∷ []) none
       ∙ ap (λ (k : ℕ). refusal (passed k ∷ [])) (same-refusal size count (nonAirCount c) (nonAirCount d) p q moves)
 
-  pub edit-count : (m : ℕ) → m ≡ countRefusal size count p q → (m ≡ 0 → ⊥) → outcome (refusedWith m) c ≡ edited input size count v c d
+  pub edit-count : (m : ℕ) → m ≡ countRefusal size count p q → (m ≡ 0 → ⊥) → cellsOutcome (refusedWith m) c ≡ edited input size count v c d
   unfolding edited
   edit-count m i h =
       let e = second ∙ passed-stop (countRefusal size count p q) [] (λ z. h (i ∙ z)) in
-      ap (λ (n : ℕ). outcome (refusedWith n) c) (i ∙ sym e) ∙ sym (is-refused _ _ _ (λ z. h (i ∙ sym e ∙ z)))
+      ap (λ (n : ℕ). cellsOutcome (refusedWith n) c) (i ∙ sym e) ∙ sym (is-refused _ _ _ (λ z. h (i ∙ sym e ∙ z)))
 
-  pub edit-done : (m : ℕ) → m ≡ countRefusal size count p q → m ≡ 0 → outcome (accepted (v ++ ((count + q - p) ∷ []))) d ≡ edited input size count v c d
+  pub edit-done : (m : ℕ) → m ≡ countRefusal size count p q → m ≡ 0 → cellsOutcome (accepted (v ++ ((count + q - p) ∷ []))) d ≡ edited input size count v c d
   unfolding edited
   edit-done m i h =
       let e = second ∙ passed-on (countRefusal size count p q) [] (sym i ∙ h) ∙ refusal-none in
       let f : count + q - p ≡ count + nonAirCount d - nonAirCount c = omega arith in
-      ap (λ (k : ℕ). outcome (accepted (v ++ (k ∷ []))) d) f ∙ sym (not-refused _ _ _ e)
+      ap (λ (k : ℕ). cellsOutcome (accepted (v ++ (k ∷ []))) d) f ∙ sym (not-refused _ _ _ e)
 
 -- an edit on cells whose count is right is not refused for it, and the new count is right
 pub right-count : (c d : List ℕ) → nonAirCount c + nonAirCount d - nonAirCount c ≡ nonAirCount d
@@ -162,8 +162,8 @@ right-passes size c d hc hd =
 
 -- ---- a column's height: at most the size, and above 0 only within
 
-pub height-most : (s x z h : ℕ) → columnHeight s x z h ≤ s
-unfolding columnHeight
+pub height-most : (s x z h : ℕ) → clippedHeight s x z h ≤ s
+unfolding clippedHeight
 height-most s x z h = at (ltb x s) (ltb z s) (ltb h s) refl
   where
     at : (a b d : Bool) → ltb h s ≡ d → pick a (pick b (pick d h s) 0) 0 ≤ s
@@ -172,8 +172,8 @@ height-most s x z h = at (ltb x s) (ltb z s) (ltb h s) refl
     at true false d e = omega arith
     at false b d e = omega arith
 
-pub height-inside : (s x z h y : ℕ) → y < columnHeight s x z h → Inside s x y z
-unfolding columnHeight
+pub height-inside : (s x z h y : ℕ) → y < clippedHeight s x z h → Inside s x y z
+unfolding clippedHeight
 height-inside s x z h y l = at (ltb x s) refl (ltb z s) refl l
   where
     at : (a : Bool) → ltb x s ≡ a → (b : Bool) → ltb z s ≡ b → y < pick a (pick b (pick (ltb h s) h s) 0) 0 → Inside s x y z
@@ -196,7 +196,7 @@ pub set-lays : (size x y z id i : ℕ) (c : List ℕ) → CellOk size (length c)
 set-lays size x y z id i c h ei = ap (λ (k : ℕ). set c k id) ei ∙ sym (put-inside size x y z id c (h .cell))
 
 pub fill-moves :
-    (size x z height id h p q : ℕ) (c : List ℕ) → length c ≡ size * size * size → h ≡ columnHeight size x z height → p ≡ columnCount size x z h c
+    (size x z height id h p q : ℕ) (c : List ℕ) → length c ≡ size * size * size → h ≡ clippedHeight size x z height → p ≡ columnCount size x z h c
     → q ≡ h * nonAir id
     → nonAirCount (fillCells size x z height id c) + p ≡ nonAirCount c + q
 unfolding fillCells
@@ -205,7 +205,7 @@ fill-moves size x z height id h p q c l eh ep eq =
     let t = ap (λ (k : ℕ). nonAirCount (layColumn size x z k id c)) eh in
     omega arith
 
-pub fill-lays : (size x z height id h : ℕ) (c d : List ℕ) → h ≡ columnHeight size x z height → d ≡ layColumn size x z h id c
+pub fill-lays : (size x z height id h : ℕ) (c d : List ℕ) → h ≡ clippedHeight size x z height → d ≡ layColumn size x z h id c
     → d ≡ fillCells size x z height id c
 unfolding fillCells
 fill-lays size x z height id h c d eh ed = ed ∙ ap (λ (k : ℕ). layColumn size x z k id c) eh

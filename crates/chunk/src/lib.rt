@@ -4,7 +4,7 @@ ghost use mathlib.Core.Path.{_≡_};
 ghost use Prim.Native.Nat.{_≤_};
 ghost use Rattle.grid.specs.Cube.{Cube};
 ghost use Rattle.grid.specs.Count.{nonAir};
-ghost use Rattle.grid_edits.specs.Edits.{columnHeight, layColumn};
+ghost use Rattle.grid_edits.specs.Edits.{clippedHeight, layColumn};
 ghost use Rattle.chunk.specs.Tests.{chunkRefusal, cellRefusal, countRefusal};
 ghost use Rattle.chunk.specs.Moves.{columnCount};
 use config::bounds::SIZE_MOST;
@@ -93,7 +93,7 @@ pub fn refuse_count(size: usize, count: u32, before: u32, after: u32) -> u32
 
 // How high a column reaches: clipped to the size, and nothing outside.
 pub fn column_height(size: usize, x: usize, z: usize, height: usize) -> usize
-    ensures { λ r. ⌜ r ≡ columnHeight size x z height ⌝ }
+    ensures { λ r. ⌜ r ≡ clippedHeight size x z height ⌝ }
 {
     if x >= size {
         return 0;

@@ -1,10 +1,10 @@
 // The bare batch: groups of four numbers, any number of them, of which those in the chunk are laid on in their order.
 ghost use mathlib.Core.Path.{_≡_};
 ghost use Prim.Native.Nat.{_≤_};
-ghost use Rattle.config.specs.Answers.{outcome};
+ghost use Rattle.config.specs.Answers.{cellsOutcome};
 ghost use Rattle.chunk.specs.Tests.{countRefusal};
 ghost use Rattle.chunk_batch.specs.Replies.{saysWritten};
-ghost use Rattle.chunk_batch.specs.Calls.{batchDoes};
+ghost use Rattle.chunk_batch.specs.Calls.{chunkBatchDoes};
 use config::refusals::OK;
 use config::refusals::RECORD;
 
@@ -38,7 +38,7 @@ fn refuse_change(size: usize, count: u32, before: usize, after: usize) -> u32
 // A batch of any length on bare cells, laid on whole or refused whole: its net change is known before a
 // cell is written. Groups outside are skipped, one that repeats a cell's id is written like any other.
 pub fn set_blocks(cells: &mut [u16], size: usize, count: u32, edits: &[u32]) -> BatchReply
-    ensures { λ r. ⌜ outcome (saysWritten r) (now (cells .exit)) ≡ batchDoes size count (now (cells .entry)) (now (edits .entry)) ⌝ }
+    ensures { λ r. ⌜ cellsOutcome (saysWritten r) (now (cells .exit)) ≡ chunkBatchDoes size count (now (cells .entry)) (now (edits .entry)) ⌝ }
 {
     let k = chunk::refuse_chunk(size, cells.len());
     if k != OK {

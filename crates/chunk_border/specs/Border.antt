@@ -45,8 +45,8 @@ pub record Bordered : Type 0 where
 abbrev pub bordered : Answer → List ℕ → Bordered
 bordered a b = record { answer = a; border = b }
 
-unfoldable pub borderDoes : Face → ℕ → List ℕ → List ℕ → Bordered
-borderDoes face size c b =
+unfoldable pub chunkBorderDoes : Face → ℕ → List ℕ → List ℕ → Bordered
+chunkBorderDoes face size c b =
     unlessRefused (borderRefusal size (length c) (length b)) (bordered (accepted []) (borderOf face size c)) (λ (n : ℕ). bordered (refusedWith n) b)
 
 -- ---- laws

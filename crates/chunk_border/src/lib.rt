@@ -3,7 +3,7 @@ ghost use mathlib.Core.Path.{_≡_};
 ghost use Prim.Native.Nat.{_≤_, _<_, _*_};
 ghost use lib.ListN.{length};
 ghost use Rattle.grid.specs.Cube.{Cube};
-ghost use Rattle.chunk_border.specs.Border.{borderSource, borderOf, borderRefusal, saysExtracted, bordered, borderDoes};
+ghost use Rattle.chunk_border.specs.Border.{borderSource, borderOf, borderRefusal, saysExtracted, bordered, chunkBorderDoes};
 use config::refusals::LENGTH;
 use config::refusals::OK;
 
@@ -68,7 +68,7 @@ fn copy_border(cells: &[u16], size: usize, face: Face, border: &mut [u16])
 
 // Hands the layer on one side out: X sides at z + y * size, Y sides at x + z * size, Z sides at x + y * size.
 pub fn extract_border(cells: &[u16], size: usize, face: Face, border: &mut [u16]) -> Extracted
-    ensures { λ r. ⌜ bordered (saysExtracted r) (now (border .exit)) ≡ borderDoes face size (now (cells .entry)) (now (border .entry)) ⌝ }
+    ensures { λ r. ⌜ bordered (saysExtracted r) (now (border .exit)) ≡ chunkBorderDoes face size (now (cells .entry)) (now (border .entry)) ⌝ }
 {
     let k = refuse_border(size, cells.len(), border.len());
     if k != OK {

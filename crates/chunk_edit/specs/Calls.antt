@@ -7,7 +7,7 @@ use lib.ListN.{length}
 use borrow.Author.Tests.{eqb-true}
 use Rattle.grid.specs.Count.{nonAirCount}
 use Rattle.config.specs.Refusals.{must, passed, refusal, refusal-zero, passed-zero}
-use Rattle.config.specs.Answers.{Outcome, done}
+use Rattle.config.specs.Answers.{CellsOutcome, done}
 use Rattle.grid_edits.specs.Edits.{setCells, fillCells}
 use Rattle.chunk.specs.Tests.{Chunk, chunkRefusal, cellRefusal, chunk-passed}
 use Rattle.chunk.specs.Calls.{edited}
@@ -17,15 +17,15 @@ unfoldable pub replaceRefusal : ℕ → ℕ → ℕ → ℕ
 replaceRefusal size n m = refusal (passed (chunkRefusal size n) ∷ must (eqb m (size * size * size)) 6 ∷ [])
 
 -- `replace_blocks`: the cells are the given ones, and counted
-unfoldable pub replaceDoes : ℕ → List ℕ → List ℕ → Outcome
-replaceDoes size c new = done (replaceRefusal size (length c) (length new)) (nonAirCount new ∷ []) c new
+unfoldable pub chunkReplaceDoes : ℕ → List ℕ → List ℕ → CellsOutcome
+chunkReplaceDoes size c new = done (replaceRefusal size (length c) (length new)) (nonAirCount new ∷ []) c new
 
 -- SCOPE 5.4 and 5.5, with the count of 5.10
-unfoldable pub setDoes : ℕ → ℕ → List ℕ → ℕ → ℕ → ℕ → ℕ → Outcome
-setDoes size count c x y z id = edited (cellRefusal size (length c) x y z) size count [] c (setCells size x y z id c)
+unfoldable pub chunkSetDoes : ℕ → ℕ → List ℕ → ℕ → ℕ → ℕ → ℕ → CellsOutcome
+chunkSetDoes size count c x y z id = edited (cellRefusal size (length c) x y z) size count [] c (setCells size x y z id c)
 
-unfoldable pub fillDoes : ℕ → ℕ → List ℕ → ℕ → ℕ → ℕ → ℕ → Outcome
-fillDoes size count c x z height id = edited (chunkRefusal size (length c)) size count [] c (fillCells size x z height id c)
+unfoldable pub chunkFillDoes : ℕ → ℕ → List ℕ → ℕ → ℕ → ℕ → ℕ → CellsOutcome
+chunkFillDoes size count c x z height id = edited (chunkRefusal size (length c)) size count [] c (fillCells size x z height id c)
 
 -- what holds where `replace_blocks` does not refuse
 pub record ReplaceOk (size n m : ℕ) : Type 0 where

@@ -2,9 +2,9 @@
 // a call does not take are refused with the cause's number (SCOPE 10.2), and the cells are then as they were.
 ghost use mathlib.Core.Path.{_≡_};
 ghost use lib.ListN.{length};
-ghost use Rattle.config.specs.Answers.{outcome};
+ghost use Rattle.config.specs.Answers.{cellsOutcome};
 ghost use Rattle.chunk.specs.Replies.{saysCounted};
-ghost use Rattle.chunk_edit.specs.Calls.{replaceRefusal, replaceDoes, setDoes, fillDoes};
+ghost use Rattle.chunk_edit.specs.Calls.{replaceRefusal, chunkReplaceDoes, chunkSetDoes, chunkFillDoes};
 use chunk::Counted;
 use config::refusals::LENGTH;
 use config::refusals::OK;
@@ -37,7 +37,7 @@ fn copy(cells: &mut [u16], blocks: &[u16])
 
 // Replaces all cells, and counts them anew.
 pub fn replace_blocks(cells: &mut [u16], size: usize, blocks: &[u16]) -> Counted
-    ensures { λ r. ⌜ outcome (saysCounted r) (now (cells .exit)) ≡ replaceDoes size (now (cells .entry)) (now (blocks .entry)) ⌝ }
+    ensures { λ r. ⌜ cellsOutcome (saysCounted r) (now (cells .exit)) ≡ chunkReplaceDoes size (now (cells .entry)) (now (blocks .entry)) ⌝ }
 {
     let k = refuse_replace(size, cells.len(), blocks.len());
     if k != OK {
@@ -58,7 +58,7 @@ pub fn set(
     z: usize,
     id: u16,
 ) -> Counted
-    ensures { λ r. ⌜ outcome (saysCounted r) (now (cells .exit)) ≡ setDoes size count (now (cells .entry)) x y z id ⌝ }
+    ensures { λ r. ⌜ cellsOutcome (saysCounted r) (now (cells .exit)) ≡ chunkSetDoes size count (now (cells .entry)) x y z id ⌝ }
 {
     let k = chunk::refuse_cell(size, cells.len(), x, y, z);
     if k != OK {
@@ -85,7 +85,7 @@ pub fn fill_column(
     height: usize,
     id: u16,
 ) -> Counted
-    ensures { λ r. ⌜ outcome (saysCounted r) (now (cells .exit)) ≡ fillDoes size count (now (cells .entry)) x z height id ⌝ }
+    ensures { λ r. ⌜ cellsOutcome (saysCounted r) (now (cells .exit)) ≡ chunkFillDoes size count (now (cells .entry)) x z height id ⌝ }
 {
     let k = chunk::refuse_chunk(size, cells.len());
     if k != OK {

@@ -10,16 +10,16 @@ use Rattle.chunk.specs.Replies.{yes}
 use Rattle.chunk.specs.Tests.{chunkRefusal, cellRefusal}
 
 -- the id of a cell
-unfoldable pub getDoes : ℕ → List ℕ → ℕ → ℕ → ℕ → Answer
-getDoes size c x y z = unlessRefused (cellRefusal size (length c) x y z) (accepted (getD c (cellIndex size x y z) 0 ∷ [])) refusedWith
+unfoldable pub chunkGetDoes : ℕ → List ℕ → ℕ → ℕ → ℕ → Answer
+chunkGetDoes size c x y z = unlessRefused (cellRefusal size (length c) x y z) (accepted (getD c (cellIndex size x y z) 0 ∷ [])) refusedWith
 
 -- whether it is air
-unfoldable pub isAirDoes : ℕ → List ℕ → ℕ → ℕ → ℕ → Answer
-isAirDoes size c x y z = unlessRefused (cellRefusal size (length c) x y z) (accepted (yes (eqb (getD c (cellIndex size x y z) 0) 0) ∷ [])) refusedWith
+unfoldable pub chunkIsAirDoes : ℕ → List ℕ → ℕ → ℕ → ℕ → Answer
+chunkIsAirDoes size c x y z = unlessRefused (cellRefusal size (length c) x y z) (accepted (yes (eqb (getD c (cellIndex size x y z) 0) 0) ∷ [])) refusedWith
 
 -- whether all are air, and whether none is
-unfoldable pub isEmptyDoes : ℕ → List ℕ → Answer
-isEmptyDoes size c = unlessRefused (chunkRefusal size (length c)) (accepted (yes (eqb (nonAirCount c) 0) ∷ [])) refusedWith
+unfoldable pub chunkIsEmptyDoes : ℕ → List ℕ → Answer
+chunkIsEmptyDoes size c = unlessRefused (chunkRefusal size (length c)) (accepted (yes (eqb (nonAirCount c) 0) ∷ [])) refusedWith
 
-unfoldable pub isSolidDoes : ℕ → List ℕ → Answer
-isSolidDoes size c = unlessRefused (chunkRefusal size (length c)) (accepted (yes (eqb (nonAirCount c) (size * size * size)) ∷ [])) refusedWith
+unfoldable pub chunkIsSolidDoes : ℕ → List ℕ → Answer
+chunkIsSolidDoes size c = unlessRefused (chunkRefusal size (length c)) (accepted (yes (eqb (nonAirCount c) (size * size * size)) ∷ [])) refusedWith

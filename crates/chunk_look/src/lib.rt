@@ -2,14 +2,14 @@
 // not take are refused with the cause's number (SCOPE 10.2).
 ghost use mathlib.Core.Path.{_≡_};
 ghost use Rattle.chunk.specs.Replies.{saysId, saysFlag};
-ghost use Rattle.chunk_look.specs.Calls.{getDoes, isAirDoes, isEmptyDoes, isSolidDoes};
+ghost use Rattle.chunk_look.specs.Calls.{chunkGetDoes, chunkIsAirDoes, chunkIsEmptyDoes, chunkIsSolidDoes};
 use chunk::BlockId;
 use chunk::Flag;
 use config::refusals::OK;
 
 // The id of a cell.
 pub fn get(cells: &[u16], size: usize, x: usize, y: usize, z: usize) -> BlockId
-    ensures { λ r. ⌜ saysId r ≡ getDoes size (now (cells .entry)) x y z ⌝ }
+    ensures { λ r. ⌜ saysId r ≡ chunkGetDoes size (now (cells .entry)) x y z ⌝ }
 {
     let k = chunk::refuse_cell(size, cells.len(), x, y, z);
     if k != OK {
@@ -21,7 +21,7 @@ pub fn get(cells: &[u16], size: usize, x: usize, y: usize, z: usize) -> BlockId
 
 // Whether a cell is air.
 pub fn is_air(cells: &[u16], size: usize, x: usize, y: usize, z: usize) -> Flag
-    ensures { λ r. ⌜ saysFlag r ≡ isAirDoes size (now (cells .entry)) x y z ⌝ }
+    ensures { λ r. ⌜ saysFlag r ≡ chunkIsAirDoes size (now (cells .entry)) x y z ⌝ }
 {
     let k = chunk::refuse_cell(size, cells.len(), x, y, z);
     if k != OK {
@@ -33,7 +33,7 @@ pub fn is_air(cells: &[u16], size: usize, x: usize, y: usize, z: usize) -> Flag
 
 // Whether every cell is air.
 pub fn is_empty(cells: &[u16], size: usize) -> Flag
-    ensures { λ r. ⌜ saysFlag r ≡ isEmptyDoes size (now (cells .entry)) ⌝ }
+    ensures { λ r. ⌜ saysFlag r ≡ chunkIsEmptyDoes size (now (cells .entry)) ⌝ }
 {
     let k = chunk::refuse_chunk(size, cells.len());
     if k != OK {
@@ -45,7 +45,7 @@ pub fn is_empty(cells: &[u16], size: usize) -> Flag
 
 // Whether no cell is air.
 pub fn is_solid(cells: &[u16], size: usize) -> Flag
-    ensures { λ r. ⌜ saysFlag r ≡ isSolidDoes size (now (cells .entry)) ⌝ }
+    ensures { λ r. ⌜ saysFlag r ≡ chunkIsSolidDoes size (now (cells .entry)) ⌝ }
 {
     let k = chunk::refuse_chunk(size, cells.len());
     if k != OK {

@@ -60,7 +60,7 @@ windowCounts base t = seenCounts base 8192 t
 unfoldable pub bumpAt : ℕ → ℕ → List ℕ → List ℕ
 bumpAt base id t = pick (ltb id base) t (pick (ltb (id - base) (length t)) (set t (id - base) (getD t (id - base) 0 + 1)) t)
 
-pub record Room (t : List ℕ) : Type 0 where
+pub record TableRoom (t : List ℕ) : Type 0 where
   pub room : (k : ℕ) → getD t k 0 < 4294967295
 
 -- ---- laws of the table
@@ -147,7 +147,7 @@ pub table-none : (base : ℕ) → idTable 0 [] ≡ idTable base []
 unfolding idTable idCount
 table-none base = refl
 
-pub table-room : (base : ℕ) (c : List ℕ) → length c ≤ 262144 → Room (idTable base c)
+pub table-room : (base : ℕ) (c : List ℕ) → length c ≤ 262144 → TableRoom (idTable base c)
 table-room base c h = record { room = λ k. at k (ltb k 8192) refl }
   where
     at : (k : ℕ) (b : Bool) → ltb k 8192 ≡ b → getD (idTable base c) k 0 < 4294967295

@@ -4,7 +4,7 @@ ghost use Prim.Native.Nat.{_+_, _≤_, _<_};
 ghost use mathlib.Core.List.{[], _++_};
 ghost use lib.ListN.{length, drop};
 ghost use lib.Seq.{sets};
-ghost use Rattle.chunk_tally.specs.Ids.{listIf, bumpAt, Room, idTable, windowIds, windowCounts, presentIds, presentCounts};
+ghost use Rattle.chunk_tally.specs.Ids.{listIf, bumpAt, TableRoom, idTable, windowIds, windowCounts, presentIds, presentCounts};
 ghost use Rattle.chunk_tally.specs.Tally.{saysListed, Tallied};
 use config::refusals::OK;
 use config::refusals::TALLY_LISTS;
@@ -34,7 +34,7 @@ fn clear(table: &mut [u32])
 
 // Counts one cell, where its id lies in the table's window.
 fn bump(table: &mut [u32], base: usize, id: u16)
-    requires { ⌜ Room (now table) ⌝ }
+    requires { ⌜ TableRoom (now table) ⌝ }
     ensures { λ _. ⌜ now (table .exit) ≡ bumpAt base id (now (table .entry)) ⌝ }
 {
     let i = id as usize;

@@ -76,8 +76,8 @@ heightsOf c n sl =
     (sl +f nat 2 +f n .continent *f nat 10 +f n .detail *f nat 6 +f n .micro *f nat 2 +f hillBoost₃₂ (n .«hill_factor»))
 
 -- from the climate over the weights to the heights
-unfoldable pub columnOf : Float → Float → Float → Column
-columnOf x z sl = heightsOf (weightsOf (climateOf x z)) (reliefOf x z) sl
+unfoldable pub columnFrom : Float → Float → Float → Column
+columnFrom x z sl = heightsOf (weightsOf (climateOf x z)) (reliefOf x z) sl
 
 -- SCOPE 4.6: the heights, blended by their weights
 unfoldable pub blend₃₂ : Column → Float
@@ -97,7 +97,7 @@ heightOf c maxHeight = clampOf (toI32 (blend₃₂ c)) (pos 1) maxHeight
 
 -- SCOPE 4.1: the column at world coordinates; the seed only moves the coordinates
 unfoldable pub columnAt : ℤ → ℤ → ℤ → Float → Column
-columnAt wx wz sea seedOffset = columnOf (real wx +f seedOffset) (real wz +f seedOffset) (real sea)
+columnAt wx wz sea seedOffset = columnFrom (real wx +f seedOffset) (real wz +f seedOffset) (real sea)
 
 abbrev pub surface : Biome → ℤ → Surface
 surface b h = record { biome = b; height = h }

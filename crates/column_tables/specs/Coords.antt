@@ -31,11 +31,11 @@ lowlandX o x =
     (cond (ltb o 33) (scaledBy (o - 30) (x *f nearest 2 100 +f nat 50)) (scaledBy (o - 33) (x *f nearest 1 100 +f nat 150)))
 
 -- octave o of all 36
-unfoldable pub coordOf : ℕ → Float → Float
-coordOf o x = cond (ltb o 14) (climateX o x) (cond (ltb o 27) (reliefX o x) (lowlandX o x))
+unfoldable pub columnCoord : ℕ → Float → Float
+columnCoord o x = cond (ltb o 14) (climateX o x) (cond (ltb o 27) (reliefX o x) (lowlandX o x))
 
 unfoldable pub coordsOf : List Float → ℕ → ℕ → Float
-coordsOf xs o i = coordOf o (at xs i)
+coordsOf xs o i = columnCoord o (at xs i)
 
 -- the tables tell of all octaves of the first n places of xs
 abbrev pub Tabled : ℕ → List Float → List ℕ → List Float → Type 0

@@ -4,7 +4,7 @@ ghost use mathlib.Core.Path.{_≡_};
 ghost use Prim.Native.Nat.{_≤_, _<_};
 ghost use lib.ListN.{length};
 ghost use Rattle.noise_tables.specs.Row.{Row};
-ghost use Rattle.column_tables.specs.Coords.{climateX, reliefX, lowlandX, coordOf, coordsOf, Tabled};
+ghost use Rattle.column_tables.specs.Coords.{climateX, reliefX, lowlandX, columnCoord, coordsOf, Tabled};
 use noise_tables::PLACES;
 use noise_tables::note_octave;
 use noise_tables::scaled;
@@ -86,7 +86,7 @@ fn lowland_x(o: usize, x: f32) -> f32
 }
 
 fn coord(o: usize, x: f32) -> f32
-    ensures { λ r. ⌜ r ≡ coordOf o x ⌝ }
+    ensures { λ r. ⌜ r ≡ columnCoord o x ⌝ }
 {
     if o < DETAIL {
         return climate_x(o, x);

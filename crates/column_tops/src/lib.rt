@@ -6,7 +6,7 @@ ghost use lib.ListN.{length, drop};
 ghost use Rattle.grid.specs.Cube.{tab, steps};
 ghost use Rattle.ground_cell.specs.World.{Tall, Near};
 ghost use Rattle.ground_cell.specs.Base.{columnHeight, columnBiome};
-ghost use Rattle.column_tops_row.specs.Tops.{Laid, noteAt};
+ghost use Rattle.column_tops_row.specs.Tops.{RowTabled, noteAt};
 use column_rows::climate_rows;
 use column_rows::height_rows;
 use column_rows::lowland_rows;
@@ -32,7 +32,7 @@ fn note_row(
     heights: &mut [u16],
     biomes: &mut [u8],
 )
-    requires { ⌜ Tall w × Near o × (z < o .size) × Laid w o (now xs) (now floors) (now eases) × (o .size * o .size ≤ length (now heights)) × (o .size * o .size ≤ length (now biomes)) ⌝ }
+    requires { ⌜ Tall w × Near o × (z < o .size) × RowTabled w o (now xs) (now floors) (now eases) × (o .size * o .size ≤ length (now heights)) × (o .size * o .size ≤ length (now biomes)) ⌝ }
     ensures { λ _. ⌜ (now (heights .exit) ≡ steps (o .size) (noteAt (columnHeight w o) (z * o .size)) (now (heights .entry))) × (now (biomes .exit) ≡ steps (o .size) (noteAt (columnBiome w o) (z * o .size)) (now (biomes .entry))) ⌝ }
 {
     let n = o.size;
@@ -81,7 +81,7 @@ fn note_each(
     heights: &mut [u16],
     biomes: &mut [u8],
 )
-    requires { ⌜ Tall w × Near o × Laid w o (now xs) (now floors) (now eases) × (o .size * o .size ≤ length (now heights)) × (o .size * o .size ≤ length (now biomes)) ⌝ }
+    requires { ⌜ Tall w × Near o × RowTabled w o (now xs) (now floors) (now eases) × (o .size * o .size ≤ length (now heights)) × (o .size * o .size ≤ length (now biomes)) ⌝ }
     ensures { λ _. ⌜ (now (heights .exit) ≡ tab (o .size * o .size) (columnHeight w o) ++ drop (o .size * o .size) (now (heights .entry))) × (now (biomes .exit) ≡ tab (o .size * o .size) (columnBiome w o) ++ drop (o .size * o .size) (now (biomes .entry))) ⌝ }
 {
     let size = o.size;

@@ -11,7 +11,7 @@ use Rattle.column.specs.Floats.{real}
 use Rattle.column.specs.Heights.{Range, height-within}
 use Rattle.column.specs.declared.Column.{Column}
 use Rattle.column.specs.declared.Relief.{Relief}
-use Rattle.column.specs.Column.{weightsOf, heightsOf, heightOf, climateOf, reliefOf, columnOf, columnAt, surfaceOf, biomeAndHeight}
+use Rattle.column.specs.Column.{weightsOf, heightsOf, heightOf, climateOf, reliefOf, columnFrom, columnAt, surfaceOf, biomeAndHeight}
 use Rattle.grid.specs.Cube.{tab, steps}
 use Rattle.grid.specs.Grid.{fill-none, fill-more, steps-length}
 use lib.Ieee.{Float}
@@ -19,7 +19,7 @@ use Rattle.ground_cell.specs.World.{Tall, heightAt, biomeAt, biomeNumber, topWi
 use Rattle.ground_cell.specs.Base.{columnHeight, columnBiome}
 use Rattle.ground_cell.specs.declared.world.World.{World}
 use Rattle.ground_cell.specs.declared.world.Frame.{Frame}
-use Rattle.column_tops_row.specs.Tops.{topOf, xAt, zAt, noteAt}
+use Rattle.column_tops_row.specs.Tops.{surfaceTop, xAt, zAt, noteAt}
 
 -- a height lies in 1 to the greatest, whatever the noise
 pub surface-range : (w : World) (t : Tall w) (c : Column) (n : Relief) (sl : Float) → Range (t .top) (surfaceOf c n sl (w .«max_height») .height)
@@ -30,9 +30,9 @@ surface-range w t c n sl =
 
 -- the top of the column at x in row z, of that column's climate and relief
 pub row-top : (w : World) (o : Frame) (z x : ℕ) → x < o .size
-    → topOf (surfaceOf (climateOf (xAt w o x) (zAt w o z)) (reliefOf (xAt w o x) (zAt w o z)) (real (w .«sea_level»)) (w .«max_height»))
+    → surfaceTop (surfaceOf (climateOf (xAt w o x) (zAt w o z)) (reliefOf (xAt w o x) (zAt w o z)) (real (w .«sea_level»)) (w .«max_height»))
     ≡ topWith (columnHeight w o (z * o .size + x)) (columnBiome w o (z * o .size + x))
-unfolding topOf xAt zAt surfaceOf columnHeight columnBiome heightAt biomeAt biomeAndHeight columnAt columnOf
+unfolding surfaceTop xAt zAt surfaceOf columnHeight columnBiome heightAt biomeAt biomeAndHeight columnAt columnFrom
 row-top w o z x h =
     ap₂ (λ (i j : ℕ). topWith (heightAt w (o .ox +ℤ pos i) (o .oz +ℤ pos j)) (biomeNumber (biomeAt w (o .ox +ℤ pos i) (o .oz +ℤ pos j))))
     (sym (digits-mod z h)) (sym (digits-div z h))

@@ -17,8 +17,8 @@ use Rattle.ground_cell.specs.declared.world.Frame.{Frame}
 use Rattle.ground_cell.specs.declared.world.Top.{Top}
 
 -- a column's height and biome as the caches hold them
-unfoldable pub topOf : Surface → Top
-topOf s = topWith (natAbs (s .height)) (biomeNumber (s .biome))
+unfoldable pub surfaceTop : Surface → Top
+surfaceTop s = topWith (natAbs (s .height)) (biomeNumber (s .biome))
 
 -- SCOPE 4.1: the coordinates that `get_biome` gives to the noise, along x and along z
 unfoldable pub xAt : World → Frame → ℕ → Float
@@ -28,7 +28,7 @@ unfoldable pub zAt : World → Frame → ℕ → Float
 zAt w o i = real (o .oz +ℤ pos i) +f w .«seed_offset»
 
 -- xs holds the columns' x, and the tables tell where they lie
-pub record Laid (w : World) (o : Frame) (xs : List Float) (floors : List ℕ) (eases : List Float) : Type 0 where
+pub record RowTabled (w : World) (o : Frame) (xs : List Float) (floors : List ℕ) (eases : List Float) : Type 0 where
   pub places : Row (o .size) (xAt w o) xs
   pub told : Tabled (o .size) xs floors eases
   pub long : 2304 ≤ length floors

@@ -8,7 +8,7 @@ ghost use Rattle.grid.specs.Cube.{steps};
 ghost use Rattle.noise_tables.specs.Row.{Row};
 ghost use Rattle.ground_cell.specs.World.{Tall, Near};
 ghost use Rattle.ground_cell.specs.Base.{columnHeight, columnBiome};
-ghost use Rattle.column_tops_row.specs.Tops.{topOf, xAt, RowNoise, noteAt};
+ghost use Rattle.column_tops_row.specs.Tops.{surfaceTop, xAt, RowNoise, noteAt};
 use column::Column;
 use column::Relief;
 use column::surface_of;
@@ -24,7 +24,7 @@ use num::float::of_i32;
 // The top of a column with this climate and relief.
 fn top_of(w: World, climate: Column, relief: Relief) -> Top
     requires { ⌜ Tall w ⌝ }
-    ensures { λ r. ⌜ r ≡ topOf (surfaceOf climate relief (real (w .«sea_level»)) (w .«max_height»)) ⌝ }
+    ensures { λ r. ⌜ r ≡ surfaceTop (surfaceOf climate relief (real (w .«sea_level»)) (w .«max_height»)) ⌝ }
 {
     let sl = of_i32(w.sea_level);
     let s = surface_of(climate, relief, sl, w.max_height);

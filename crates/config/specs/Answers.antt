@@ -31,13 +31,13 @@ is-refused (suc n) good bad e = refl
 -- ---- a call that changes cells
 
 -- its answer and the cells after it
-pub record Outcome : Type 0 where
+pub record CellsOutcome : Type 0 where
   pub answer : Answer
   pub cells : List ℕ
 
-abbrev pub outcome : Answer → List ℕ → Outcome
-outcome a c = record { answer = a; cells = c }
+abbrev pub cellsOutcome : Answer → List ℕ → CellsOutcome
+cellsOutcome a c = record { answer = a; cells = c }
 
 -- by the number of the first refusal: 0 turns the cells c into d and answers the values, any other leaves the cells as they were
-abbrev pub done : ℕ → List ℕ → List ℕ → List ℕ → Outcome
-done n values c d = unlessRefused n (outcome (accepted values) d) (λ (k : ℕ). outcome (refusedWith k) c)
+abbrev pub done : ℕ → List ℕ → List ℕ → List ℕ → CellsOutcome
+done n values c d = unlessRefused n (cellsOutcome (accepted values) d) (λ (k : ℕ). cellsOutcome (refusedWith k) c)

@@ -11,16 +11,16 @@ abbrev pub setCells : ℕ → ℕ → ℕ → ℕ → ℕ → List ℕ → List 
 setCells size x y z id c = putAt size x y z id c
 
 -- SCOPE 5.5: how many cells are filled, at most the size, and 0 where x or z lies outside
-unfoldable pub columnHeight : ℕ → ℕ → ℕ → ℕ → ℕ
-columnHeight size x z height = pick (ltb x size) (pick (ltb z size) (pick (ltb height size) height size) 0) 0
+unfoldable pub clippedHeight : ℕ → ℕ → ℕ → ℕ → ℕ
+clippedHeight size x z height = pick (ltb x size) (pick (ltb z size) (pick (ltb height size) height size) 0) 0
 
 -- the lowest h cells of a column, from y = 0 upward
 unfoldable pub layColumn : ℕ → ℕ → ℕ → ℕ → ℕ → List ℕ → List ℕ
 layColumn size x z h id c = steps h (λ (y : ℕ). λ (d : List ℕ). putAt size x y z id d) c
 
 unfoldable pub fillCells : ℕ → ℕ → ℕ → ℕ → ℕ → List ℕ → List ℕ
-unfolding layColumn columnHeight
-fillCells size x z height id c = layColumn size x z (columnHeight size x z height) id c
+unfolding layColumn clippedHeight
+fillCells size x z height id c = layColumn size x z (clippedHeight size x z height) id c
 
 -- One group of a batch.
 pub record Group : Type 0 where

@@ -13,14 +13,14 @@ use Rattle.config.specs.declared.ChunkPos.{ChunkPos}
 use Rattle.ground_cell.specs.World.{Tall, Near}
 use Rattle.ground.specs.Ground.{worldOf, frameOf, generateRefusal}
 
-pub record Sound (s : TerrainConfig) (p : ChunkPos) (n : ℕ) : Type 0 where
+pub record SoundSettings (s : TerrainConfig) (p : ChunkPos) (n : ℕ) : Type 0 where
   pub limits : limitRefusal (configHeader s p) ≡ 0
   pub within : Fine s p
   pub all : n ≡ s .«chunk_size» * s .«chunk_size» * s .«chunk_size»
 
-pub sound : (s : TerrainConfig) (p : ChunkPos) (n : ℕ) → generateRefusal s p n ≡ 0 → Sound s p n
+pub sound-settings : (s : TerrainConfig) (p : ChunkPos) (n : ℕ) → generateRefusal s p n ≡ 0 → SoundSettings s p n
 unfolding generateRefusal
-sound s p n e =
+sound-settings s p n e =
     let a = passed-zero (limitRefusal (configHeader s p)) _ e in
     let b = refusal-zero (eqb n (s .«chunk_size» * s .«chunk_size» * s .«chunk_size»)) 5 _ (a .1) in
     record { limits = a .0; within = fine s p (a .0); all = eqb-true _ _ (b .0) }

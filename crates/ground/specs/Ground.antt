@@ -9,7 +9,7 @@ use lib.ListN.{length}
 use Rattle.column.specs.Floats.{_*f_, nat, real}
 use Rattle.config.specs.Refusals.{must, passed, refusal}
 use Rattle.config.specs.Limits.{limitRefusal, configHeader}
-use Rattle.config.specs.Answers.{Answer, accepted, refusedWith, never-both, Outcome, done}
+use Rattle.config.specs.Answers.{Answer, accepted, refusedWith, never-both, CellsOutcome, done}
 use Rattle.config.specs.declared.TerrainConfig.{TerrainConfig}
 use Rattle.config.specs.declared.ChunkPos.{ChunkPos}
 use Rattle.grid.specs.Count.{nonAirCount}
@@ -46,7 +46,7 @@ saysGenerated (Count n) = accepted (n ∷ [])
 saysGenerated (Refused k) = refusedWith k
 
 -- the cells become the ground and the answer is their count; a refusal leaves them as they came
-unfoldable pub generateDoes : TerrainConfig → ChunkPos → List ℕ → Outcome
+unfoldable pub generateDoes : TerrainConfig → ChunkPos → List ℕ → CellsOutcome
 generateDoes s p c = done (generateRefusal s p (length c)) (nonAirCount (ground s p) ∷ []) c (ground s p)
 
 -- answers that say the same are the same

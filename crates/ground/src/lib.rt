@@ -4,7 +4,7 @@ ghost use Prim.Native.Nat.{_≤_};
 ghost use lib.IntN.{pos, _*ℤ_};
 ghost use lib.Signed.{mag};
 ghost use Rattle.config.specs.Limits.{Between, Fine};
-ghost use Rattle.config.specs.Answers.{outcome};
+ghost use Rattle.config.specs.Answers.{cellsOutcome};
 ghost use Rattle.ground.specs.Ground.{worldOf, frameOf, generateRefusal, saysGenerated, generateDoes};
 use config::ChunkPos;
 use config::TerrainConfig;
@@ -70,7 +70,7 @@ fn refusal_of(config: TerrainConfig, pos: ChunkPos, n: usize) -> u32
 
 // Lays the ground of a chunk into borrowed cells.
 pub fn generate(config: TerrainConfig, pos: ChunkPos, cells: &mut [u16]) -> Generated
-    ensures { λ r. ⌜ outcome (saysGenerated r) (now (cells .exit)) ≡ generateDoes config pos (now (cells .entry)) ⌝ }
+    ensures { λ r. ⌜ cellsOutcome (saysGenerated r) (now (cells .exit)) ≡ generateDoes config pos (now (cells .entry)) ⌝ }
 {
     let f = refusal_of(config, pos, cells.len());
     if f != OK {

@@ -4,10 +4,10 @@ ghost use Prim.Native.Nat.{_≤_};
 ghost use lib.ListN.{length};
 ghost use Rattle.grid.specs.Cube.{Cube};
 ghost use Rattle.noise_tables.specs.Places as places;
-ghost use Rattle.cave_tables.specs.Coords.{coordOf};
-ghost use Rattle.ground_rows.specs.Rows.{Lent};
+ghost use Rattle.cave_tables.specs.Coords.{caveCoord};
+ghost use Rattle.ground_rows.specs.Rows.{RowLent};
 ghost use Rattle.ground_cell.specs.World.{Tall, Near};
-ghost use Rattle.ground_cell.specs.Base.{Noted, baseCells};
+ghost use Rattle.ground_cell.specs.Base.{TopsNoted, baseCells};
 use cave_rows::EDGES;
 use cave_tables::TABLE;
 use cave_tables::note_coords;
@@ -29,7 +29,7 @@ fn lay_rows(
     flags: &mut [bool],
     cells: &mut [u16],
 )
-    requires { ⌜ Tall w × Near o × Noted w o (now heights) (now biomes) × places.Noted (o .size) 27 (coordOf o) (now floors) (now eases) × Lent o (now floors) (now eases) (now edges) (now flags) × (o .size ≤ length (now cuts)) × Cube (o .size) (now cells) ⌝ }
+    requires { ⌜ Tall w × Near o × TopsNoted w o (now heights) (now biomes) × places.Noted (o .size) 27 (caveCoord o) (now floors) (now eases) × RowLent o (now floors) (now eases) (now edges) (now flags) × (o .size ≤ length (now cuts)) × Cube (o .size) (now cells) ⌝ }
     ensures { λ _. ⌜ now (cells .exit) ≡ baseCells w o ⌝ }
 {
     let size = o.size;
@@ -60,7 +60,7 @@ fn no_flags() -> [bool; PLACES]
 
 // Lays every cell. The chunk's coordinates are noted once for all rows.
 pub fn lay_base(w: World, o: Frame, heights: &[u16], biomes: &[u8], cells: &mut [u16])
-    requires { ⌜ Tall w × Near o × Noted w o (now heights) (now biomes) × Cube (o .size) (now cells) ⌝ }
+    requires { ⌜ Tall w × Near o × TopsNoted w o (now heights) (now biomes) × Cube (o .size) (now cells) ⌝ }
     ensures { λ _. ⌜ now (cells .exit) ≡ baseCells w o ⌝ }
 {
     let mut floors = [0u32; TABLE];

@@ -24,7 +24,7 @@ unfoldable pub columnBiome : World → Frame → ℕ → ℕ
 columnBiome w o k = biomeNumber (biomeAt w (o .ox +ℤ pos (k % o .size)) (o .oz +ℤ pos (k / o .size)))
 
 -- the lists hold the heights and the biomes of the chunk's columns
-pub record Noted (w : World) (o : Frame) (hs bs : List ℕ) : Type 0 where
+pub record TopsNoted (w : World) (o : Frame) (hs bs : List ℕ) : Type 0 where
   pub heights : (k : ℕ) → k < o .size * o .size → getD hs k 0 ≡ columnHeight w o k
   pub biomes : (k : ℕ) → k < o .size * o .size → getD bs k 0 ≡ columnBiome w o k
   pub long : o .size * o .size ≤ length hs

@@ -16,7 +16,7 @@ use Rattle.grid.specs.Grid.{tab-length, tab-at}
 use Rattle.basics.specs.Paths.{ap₃}
 use Rattle.basics.specs.Lists.{front-more}
 use Rattle.ground_cell.specs.World.{Tall, heightAt, topAt, topWith, cellWith, cellUnder, baseCell, localY}
-use Rattle.ground_cell.specs.Base.{Noted, columnHeight, columnBiome, baseNumbered, baseCells}
+use Rattle.ground_cell.specs.Base.{TopsNoted, columnHeight, columnBiome, baseNumbered, baseCells}
 use Rattle.ground_cell.specs.Laws.{height-least, height-most, cell-told}
 use Rattle.ground_cell.specs.declared.world.World.{World}
 use Rattle.ground_cell.specs.declared.world.Frame.{Frame}
@@ -69,7 +69,7 @@ module _ (w : World) (o : Frame) where
   next-row z = sym (add-mul z 1 (o .size) ∙ (omega arith))
 
   -- the top of column x of row z, as the caches hold it
-  pub top-is : (hs bs : List ℕ) → Noted w o hs bs → (x z : ℕ) → x < o .size → z < o .size
+  pub top-is : (hs bs : List ℕ) → TopsNoted w o hs bs → (x z : ℕ) → x < o .size → z < o .size
       → topWith (getD hs (z * o .size + x) 0) (getD bs (z * o .size + x) 0) ≡ topAt w (o .ox +ℤ pos x) (o .oz +ℤ pos z)
   unfolding topAt columnHeight columnBiome
   top-is hs bs n x z hx hz =
@@ -78,7 +78,7 @@ module _ (w : World) (o : Frame) where
       ∙ ap₂ (λ (a b : ℕ). topAt w (o .ox +ℤ pos a) (o .oz +ℤ pos b)) (digits-mod z hx) (digits-div z hx)
 
   -- a column's height is 1 to 4,095
-  pub height-range : (t : Tall w) (hs bs : List ℕ) → Noted w o hs bs → (x z : ℕ) → x < o .size → z < o .size
+  pub height-range : (t : Tall w) (hs bs : List ℕ) → TopsNoted w o hs bs → (x z : ℕ) → x < o .size → z < o .size
       → (1 ≤ getD hs (z * o .size + x) 0) × (getD hs (z * o .size + x) 0 ≤ 4095)
   unfolding topAt
   height-range t hs bs n x z hx hz =
@@ -89,7 +89,7 @@ module _ (w : World) (o : Frame) where
       (omega arith, omega arith)
 
   -- cell x of a line, laid by its flag, is the base's
-  pub cell-is : (hs bs : List ℕ) (flags : List Bool) → Noted w o hs bs → (x y z : ℕ) → x < o .size → y < o .size → z < o .size → Flagged o y z hs flags
+  pub cell-is : (hs bs : List ℕ) (flags : List Bool) → TopsNoted w o hs bs → (x y z : ℕ) → x < o .size → y < o .size → z < o .size → Flagged o y z hs flags
       → cellWith (topWith (getD hs (z * o .size + x) 0) (getD bs (z * o .size + x) 0)) (w .«sea_level») (o .oy +ℤ pos y) (getD flags x false)
       ≡ baseNumbered w o ((z * o .size + y) * o .size + x)
   unfolding baseNumbered baseCell

@@ -4,7 +4,7 @@ ghost use Prim.Native.Nat.{_+_, _*_, _≤_, _<_};
 ghost use lib.ListN.{length};
 ghost use lib.Signed.{mag};
 ghost use Rattle.ground_cell.specs.World.{Tall, Near};
-ghost use Rattle.ground_cell.specs.Base.{Noted};
+ghost use Rattle.ground_cell.specs.Base.{TopsNoted};
 ghost use Rattle.ground_lines.specs.Lines.{belowLevel, Highest, Flagged, DoneTo};
 use ground_cell::world::Frame;
 use ground_cell::world::Top;
@@ -54,7 +54,7 @@ pub fn lay_line(
     flags: &[bool],
     cells: &mut [u16],
 )
-    requires { ⌜ Tall w × Near o × (y < o .size) × (z < o .size) × Noted w o (now heights) (now biomes) × Flagged o y z (now heights) (now flags) × DoneTo w o (z * o .size + y) (now cells) ⌝ }
+    requires { ⌜ Tall w × Near o × (y < o .size) × (z < o .size) × TopsNoted w o (now heights) (now biomes) × Flagged o y z (now heights) (now flags) × DoneTo w o (z * o .size + y) (now cells) ⌝ }
     ensures { λ _. ⌜ DoneTo w o (z * o .size + y + 1) (now (cells .exit)) ⌝ }
 {
     let size = o.size;

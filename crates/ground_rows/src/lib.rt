@@ -3,11 +3,11 @@ ghost use mathlib.Core.Path.{_≡_};
 ghost use Prim.Native.Nat.{_+_, _*_, _≤_, _<_};
 ghost use lib.ListN.{length};
 ghost use Rattle.noise_tables.specs.Places as places;
-ghost use Rattle.cave_tables.specs.Coords.{coordOf};
+ghost use Rattle.cave_tables.specs.Coords.{caveCoord};
 ghost use Rattle.ground_cell.specs.World.{Tall, Near};
-ghost use Rattle.ground_cell.specs.Base.{Noted};
+ghost use Rattle.ground_cell.specs.Base.{TopsNoted};
 ghost use Rattle.ground_lines.specs.Lines.{DoneTo, Flagged};
-ghost use Rattle.ground_rows.specs.Rows.{Lent, Ready, Begun};
+ghost use Rattle.ground_rows.specs.Rows.{RowLent, Ready, RowBegun};
 use cave_ravines::note_cuts;
 use cave_rows::first_layers;
 use cave_rows::hollow_row;
@@ -33,7 +33,7 @@ fn mark_line(
     edges: &mut [f32],
     flags: &mut [bool],
 ) -> usize
-    requires { ⌜ Near o × (y < o .size) × (z < o .size) × Ready o z lo hi from (now heights) (now cuts) (now floors) (now eases) (now edges) × Lent o (now floors) (now eases) (now edges) (now flags) ⌝ }
+    requires { ⌜ Near o × (y < o .size) × (z < o .size) × Ready o z lo hi from (now heights) (now cuts) (now floors) (now eases) (now edges) × RowLent o (now floors) (now eases) (now edges) (now flags) ⌝ }
     ensures { λ r. ⌜ Ready o z lo hi r (now (heights .entry)) (now (cuts .entry)) (now (floors .entry)) (now (eases .entry)) (now (edges .exit)) × Flagged o y z (now (heights .entry)) (now (flags .exit)) ⌝ }
 {
     if (lo <= y) & (y < hi) {
@@ -59,7 +59,7 @@ fn lay_levels(
     flags: &mut [bool],
     cells: &mut [u16],
 )
-    requires { ⌜ Tall w × Near o × (z < o .size) × Noted w o (now heights) (now biomes) × Ready o z lo hi lo (now heights) (now cuts) (now floors) (now eases) (now edges) × Lent o (now floors) (now eases) (now edges) (now flags) × DoneTo w o (z * o .size) (now cells) ⌝ }
+    requires { ⌜ Tall w × Near o × (z < o .size) × TopsNoted w o (now heights) (now biomes) × Ready o z lo hi lo (now heights) (now cuts) (now floors) (now eases) (now edges) × RowLent o (now floors) (now eases) (now edges) (now flags) × DoneTo w o (z * o .size) (now cells) ⌝ }
     ensures { λ _. ⌜ DoneTo w o (z * o .size + o .size) (now (cells .exit)) ⌝ }
 {
     let mut from = lo;
@@ -95,8 +95,8 @@ fn begin_row(
     edges: &mut [f32],
     cuts: &mut [bool],
 )
-    requires { ⌜ Near o × (hi ≤ o .size) × (z < o .size) × places.Noted (o .size) 27 (coordOf o) (now floors) (now eases) × (length (now floors) ≡ 1728) × (length (now eases) ≡ 1728) × (length (now edges) ≡ 2048) × (o .size ≤ length (now cuts)) ⌝ }
-    ensures { λ _. ⌜ Begun o z lo hi (now (cuts .exit)) (now (floors .entry)) (now (eases .entry)) (now (edges .exit)) ⌝ }
+    requires { ⌜ Near o × (hi ≤ o .size) × (z < o .size) × places.Noted (o .size) 27 (caveCoord o) (now floors) (now eases) × (length (now floors) ≡ 1728) × (length (now eases) ≡ 1728) × (length (now edges) ≡ 2048) × (o .size ≤ length (now cuts)) ⌝ }
+    ensures { λ _. ⌜ RowBegun o z lo hi (now (cuts .exit)) (now (floors .entry)) (now (eases .entry)) (now (edges .exit)) ⌝ }
 {
     if lo >= hi {
         return;
@@ -119,7 +119,7 @@ pub fn lay_row(
     flags: &mut [bool],
     cells: &mut [u16],
 )
-    requires { ⌜ Tall w × Near o × (z < o .size) × Noted w o (now heights) (now biomes) × places.Noted (o .size) 27 (coordOf o) (now floors) (now eases) × Lent o (now floors) (now eases) (now edges) (now flags) × (o .size ≤ length (now cuts)) × DoneTo w o (z * o .size) (now cells) ⌝ }
+    requires { ⌜ Tall w × Near o × (z < o .size) × TopsNoted w o (now heights) (now biomes) × places.Noted (o .size) 27 (caveCoord o) (now floors) (now eases) × RowLent o (now floors) (now eases) (now edges) (now flags) × (o .size ≤ length (now cuts)) × DoneTo w o (z * o .size) (now cells) ⌝ }
     ensures { λ _. ⌜ DoneTo w o (z * o .size + o .size) (now (cells .exit)) ⌝ }
 {
     let size = o.size;

@@ -2,7 +2,7 @@
 // value and stores what comes back. Exported to C as they are; include/perillahinge.h says what each is for. One equation for the record, the
 // reply, the cells and the journal.
 ghost use mathlib.Core.Path.{_≡_};
-ghost use Rattle.session_calls.specs.Calls.{outcome, setDoes, columnDoes, batchDoes, undoDoes};
+ghost use Rattle.session_calls.specs.Calls.{outcome, sessionSetDoes, sessionColumnDoes, sessionBatchDoes, sessionUndoDoes};
 use session_calls::Reply;
 use session_calls::Session;
 
@@ -17,7 +17,7 @@ pub extern "C" fn pl_session_set(
     id: u16,
 ) -> Reply
     ensures { λ r. ⌜ outcome (now (session .exit)) r (now (cells .exit)) (now (journal .exit))
-        ≡ setDoes (now (session .entry)) (now (cells .entry)) (now (journal .entry)) x y z id ⌝ }
+        ≡ sessionSetDoes (now (session .entry)) (now (cells .entry)) (now (journal .entry)) x y z id ⌝ }
 {
     let b = session_edit::set(*session, cells, journal, x, y, z, id);
     *session = b.session;
@@ -35,7 +35,7 @@ pub extern "C" fn pl_session_fill_column(
     id: u16,
 ) -> Reply
     ensures { λ r. ⌜ outcome (now (session .exit)) r (now (cells .exit)) (now (journal .exit))
-        ≡ columnDoes (now (session .entry)) (now (cells .entry)) (now (journal .entry)) x z height id ⌝ }
+        ≡ sessionColumnDoes (now (session .entry)) (now (cells .entry)) (now (journal .entry)) x z height id ⌝ }
 {
     let b = session_edit::fill_column(*session, cells, journal, x, z, height, id);
     *session = b.session;
@@ -50,7 +50,7 @@ pub extern "C" fn pl_session_set_blocks(
     edits: &[u32],
 ) -> Reply
     ensures { λ r. ⌜ outcome (now (session .exit)) r (now (cells .exit)) (now (journal .exit))
-        ≡ batchDoes (now (session .entry)) (now (cells .entry)) (now (journal .entry)) (now (edits .entry)) ⌝ }
+        ≡ sessionBatchDoes (now (session .entry)) (now (cells .entry)) (now (journal .entry)) (now (edits .entry)) ⌝ }
 {
     let b = session_batch::set_blocks(*session, cells, journal, edits);
     *session = b.session;
@@ -64,7 +64,7 @@ pub extern "C" fn pl_session_undo(
     journal: &mut [u8],
 ) -> Reply
     ensures { λ r. ⌜ outcome (now (session .exit)) r (now (cells .exit)) (now (journal .exit))
-        ≡ undoDoes (now (session .entry)) (now (cells .entry)) (now (journal .entry)) ⌝ }
+        ≡ sessionUndoDoes (now (session .entry)) (now (cells .entry)) (now (journal .entry)) ⌝ }
 {
     let b = session_undo::undo(*session, cells, journal);
     *session = b.session;

@@ -6,10 +6,10 @@ ghost use lib.ListN.{length};
 ghost use Rattle.noise.specs.Hash.{hash2₃₂, hash3₃₂};
 ghost use Rattle.noise.specs.Noise.{noise2d₃₂, noise3d₃₂, fbm2d₃₂, fbm3d₃₂};
 ghost use Rattle.ground.specs.Ground.{generateDoes};
-ghost use Rattle.chunk_look.specs.Calls.{getDoes, isAirDoes, isEmptyDoes, isSolidDoes};
-ghost use Rattle.chunk_edit.specs.Calls.{replaceDoes, setDoes, fillDoes};
-ghost use Rattle.chunk_batch.specs.Calls.{batchDoes};
-ghost use Rattle.session_calls.specs.Calls.{freshDoes, reopenDoes};
+ghost use Rattle.chunk_look.specs.Calls.{chunkGetDoes, chunkIsAirDoes, chunkIsEmptyDoes, chunkIsSolidDoes};
+ghost use Rattle.chunk_edit.specs.Calls.{chunkReplaceDoes, chunkSetDoes, chunkFillDoes};
+ghost use Rattle.chunk_batch.specs.Calls.{chunkBatchDoes};
+ghost use Rattle.session_calls.specs.Calls.{sessionFreshDoes, sessionReopenDoes};
 ghost use Rattle.journal_prefix.specs.Prefix.{committedPart};
 ghost use Rattle.host_answers.specs.Answers.{answerOf, answered, editInC, batchAnswered, batchInC, borderAnswered, borderInCDoes, TalliedInC};
 ghost use Rattle.host_starts.specs.Sessions.{begunInC, freshInC, resumedInC, reopenInC};
@@ -74,35 +74,35 @@ pub extern "C" fn pl_generate(config: TerrainConfig, pos: ChunkPos, cells: &mut 
 
 #[no_mangle]
 pub extern "C" fn pl_get(cells: &[u16], size: usize, x: usize, y: usize, z: usize) -> Answer
-    ensures { λ r. ⌜ r ≡ answerOf (getDoes size (now (cells .entry)) x y z) ⌝ }
+    ensures { λ r. ⌜ r ≡ answerOf (chunkGetDoes size (now (cells .entry)) x y z) ⌝ }
 {
     host_answers::id_answer(chunk_look::get(cells, size, x, y, z))
 }
 
 #[no_mangle]
 pub extern "C" fn pl_is_air(cells: &[u16], size: usize, x: usize, y: usize, z: usize) -> Answer
-    ensures { λ r. ⌜ r ≡ answerOf (isAirDoes size (now (cells .entry)) x y z) ⌝ }
+    ensures { λ r. ⌜ r ≡ answerOf (chunkIsAirDoes size (now (cells .entry)) x y z) ⌝ }
 {
     host_answers::flag_answer(chunk_look::is_air(cells, size, x, y, z))
 }
 
 #[no_mangle]
 pub extern "C" fn pl_is_empty(cells: &[u16], size: usize) -> Answer
-    ensures { λ r. ⌜ r ≡ answerOf (isEmptyDoes size (now (cells .entry))) ⌝ }
+    ensures { λ r. ⌜ r ≡ answerOf (chunkIsEmptyDoes size (now (cells .entry))) ⌝ }
 {
     host_answers::flag_answer(chunk_look::is_empty(cells, size))
 }
 
 #[no_mangle]
 pub extern "C" fn pl_is_solid(cells: &[u16], size: usize) -> Answer
-    ensures { λ r. ⌜ r ≡ answerOf (isSolidDoes size (now (cells .entry))) ⌝ }
+    ensures { λ r. ⌜ r ≡ answerOf (chunkIsSolidDoes size (now (cells .entry))) ⌝ }
 {
     host_answers::flag_answer(chunk_look::is_solid(cells, size))
 }
 
 #[no_mangle]
 pub extern "C" fn pl_replace_blocks(cells: &mut [u16], size: usize, blocks: &[u16]) -> Answer
-    ensures { λ r. ⌜ answered r (now (cells .exit)) ≡ editInC (replaceDoes size (now (cells .entry)) (now (blocks .entry))) ⌝ }
+    ensures { λ r. ⌜ answered r (now (cells .exit)) ≡ editInC (chunkReplaceDoes size (now (cells .entry)) (now (blocks .entry))) ⌝ }
 {
     host_answers::count_answer(chunk_edit::replace_blocks(cells, size, blocks))
 }
@@ -117,7 +117,7 @@ pub extern "C" fn pl_set(
     z: usize,
     id: u16,
 ) -> Answer
-    ensures { λ r. ⌜ answered r (now (cells .exit)) ≡ editInC (setDoes size count (now (cells .entry)) x y z id) ⌝ }
+    ensures { λ r. ⌜ answered r (now (cells .exit)) ≡ editInC (chunkSetDoes size count (now (cells .entry)) x y z id) ⌝ }
 {
     host_answers::count_answer(chunk_edit::set(cells, size, count, x, y, z, id))
 }
@@ -132,7 +132,7 @@ pub extern "C" fn pl_fill_column(
     height: usize,
     id: u16,
 ) -> Answer
-    ensures { λ r. ⌜ answered r (now (cells .exit)) ≡ editInC (fillDoes size count (now (cells .entry)) x z height id) ⌝ }
+    ensures { λ r. ⌜ answered r (now (cells .exit)) ≡ editInC (chunkFillDoes size count (now (cells .entry)) x z height id) ⌝ }
 {
     host_answers::count_answer(chunk_edit::fill_column(cells, size, count, x, z, height, id))
 }
@@ -144,7 +144,7 @@ pub extern "C" fn pl_set_blocks(
     count: u32,
     edits: &[u32],
 ) -> BatchAnswer
-    ensures { λ r. ⌜ batchAnswered r (now (cells .exit)) ≡ batchInC (batchDoes size count (now (cells .entry)) (now (edits .entry))) ⌝ }
+    ensures { λ r. ⌜ batchAnswered r (now (cells .exit)) ≡ batchInC (chunkBatchDoes size count (now (cells .entry)) (now (edits .entry))) ⌝ }
 {
     host_answers::batch_answer(chunk_batch::set_blocks(cells, size, count, edits))
 }
@@ -189,14 +189,14 @@ pub extern "C" fn pl_session_fresh(
     cells: &mut [u16],
     journal: &mut [u8],
 ) -> Start
-    ensures { λ r. ⌜ begunInC r (now (cells .exit)) (now (journal .exit)) ≡ freshInC (freshDoes config pos (now (cells .entry)) (now (journal .entry))) ⌝ }
+    ensures { λ r. ⌜ begunInC r (now (cells .exit)) (now (journal .exit)) ≡ freshInC (sessionFreshDoes config pos (now (cells .entry)) (now (journal .entry))) ⌝ }
 {
     host_starts::fresh_start(session_fresh::fresh(config, pos, cells, journal))
 }
 
 #[no_mangle]
 pub extern "C" fn pl_session_reopen(cells: &mut [u16], journal: &[u8], held: usize) -> Start
-    ensures { λ r. ⌜ resumedInC r (now (cells .exit)) ≡ reopenInC (reopenDoes (now (cells .entry)) (now (journal .entry)) held) ⌝ }
+    ensures { λ r. ⌜ resumedInC r (now (cells .exit)) ≡ reopenInC (sessionReopenDoes (now (cells .entry)) (now (journal .entry)) held) ⌝ }
 {
     host_starts::reopen_start(session_reopen::reopen(cells, journal, held))
 }

@@ -4,10 +4,10 @@ use mathlib.Core.List.{List, [], _∷_}
 use mathlib.Core.Option.{Option, some, none}
 use Prim.Native.Nat.{ℕ, zero, suc, _<_}
 use native.Mathlib.Omega.{arith}
-use Rattle.config.specs.Answers.{Answer, accepted, refused, Outcome, outcome}
+use Rattle.config.specs.Answers.{Answer, accepted, refused, CellsOutcome, cellsOutcome}
 use Rattle.chunk_border.specs.declared.Face.{Face}
 use Rattle.chunk_border.specs.declared.Face.the-variants.{PosX, NegX, PosY, NegY, PosZ, NegZ}
-use Rattle.chunk_border.specs.Border.{borderDoes, bordered, Bordered}
+use Rattle.chunk_border.specs.Border.{chunkBorderDoes, bordered, Bordered}
 use Rattle.chunk_tally.specs.Tally.{Tallied}
 use Rattle.host_answers.specs.declared.Answer.{Answer as AnswerInC}
 use Rattle.host_answers.specs.declared.BatchAnswer.{BatchAnswer as BatchAnswerInC}
@@ -50,7 +50,7 @@ abbrev pub answered : AnswerInC → List ℕ → Answered
 answered a c = record { answer = a; cells = c }
 
 -- a call on cells, as C sees it
-abbrev pub editInC : Outcome → Answered
+abbrev pub editInC : CellsOutcome → Answered
 editInC o = answered (answerOf (o .answer)) (o .cells)
 
 pub record BatchAnswered : Type 0 where
@@ -61,7 +61,7 @@ abbrev pub batchAnswered : BatchAnswerInC → List ℕ → BatchAnswered
 batchAnswered a c = record { answer = a; cells = c }
 
 -- a batch on cells, as C sees it
-abbrev pub batchInC : Outcome → BatchAnswered
+abbrev pub batchInC : CellsOutcome → BatchAnswered
 batchInC o = batchAnswered (batchAnswerOf (o .answer)) (o .cells)
 
 -- ---- the border
@@ -89,7 +89,7 @@ borderInC o = borderAnswered (answerOf (o .answer)) (o .border)
 
 -- SCOPE 10.6: a number that names no face gets 99, before all other tests; the border is left as it was
 abbrev pub borderAt : Option Face → ℕ → List ℕ → List ℕ → BorderAnswered
-borderAt (some face) size c b = borderInC (borderDoes face size c b)
+borderAt (some face) size c b = borderInC (chunkBorderDoes face size c b)
 borderAt none size c b = borderAnswered (answer 99 0 0) b
 
 -- `extract_border` of a number
@@ -106,14 +106,14 @@ pub record TalliedInC (size : ℕ) (c : List ℕ) (r : AnswerInC) (ids counts id
 
 -- ---- laws: an answer in C, of what the library's call answered
 
-pub edit-in-c : (r : AnswerInC) (a : Answer) (c : List ℕ) (o : Outcome) → r ≡ answerOf a → outcome a c ≡ o → answered r c ≡ editInC o
+pub edit-in-c : (r : AnswerInC) (a : Answer) (c : List ℕ) (o : CellsOutcome) → r ≡ answerOf a → cellsOutcome a c ≡ o → answered r c ≡ editInC o
 edit-in-c r a c o e f = ap (λ (u : AnswerInC). answered u c) e ∙ ap editInC f
 
-pub batch-in-c : (r : BatchAnswerInC) (a : Answer) (c : List ℕ) (o : Outcome) → r ≡ batchAnswerOf a → outcome a c ≡ o → batchAnswered r c ≡ batchInC o
+pub batch-in-c : (r : BatchAnswerInC) (a : Answer) (c : List ℕ) (o : CellsOutcome) → r ≡ batchAnswerOf a → cellsOutcome a c ≡ o → batchAnswered r c ≡ batchInC o
 batch-in-c r a c o e f = ap (λ (u : BatchAnswerInC). batchAnswered u c) e ∙ ap batchInC f
 
 pub border-in-c : (n size : ℕ) (face : Face) (c b b′ : List ℕ) (r : AnswerInC) (a : Answer)
-    → faceOf n ≡ some face → r ≡ answerOf a → bordered a b′ ≡ borderDoes face size c b → borderAnswered r b′ ≡ borderInCDoes n size c b
+    → faceOf n ≡ some face → r ≡ answerOf a → bordered a b′ ≡ chunkBorderDoes face size c b → borderAnswered r b′ ≡ borderInCDoes n size c b
 unfolding borderInCDoes
 border-in-c n size face c b b′ r a g e f = rw g (ap (λ (u : AnswerInC). borderAnswered u b′) e ∙ ap borderInC f)
 

@@ -22,8 +22,8 @@ noSession =
     0
 
 -- a session with the number of its journal's whole lines and trailing bytes
-abbrev pub started : Session → ℕ → ℕ → Start
-started s lines trailing = record { session = s; number = 0; line = 0; lines = lines; trailing = trailing }
+abbrev pub startedInC : Session → ℕ → ℕ → Start
+startedInC s lines trailing = record { session = s; number = 0; line = 0; lines = lines; trailing = trailing }
 
 -- a refusal: its number and line
 abbrev pub notStarted : ℕ → ℕ → Start
@@ -31,12 +31,12 @@ notStarted number line = record { session = noSession; number = number; line = l
 
 -- number, line and values of each case of a fresh session, whose journal is its first line
 abbrev pub freshStart : Fresh → Start
-freshStart (Started s) = started s 1 0
+freshStart (Started s) = startedInC s 1 0
 freshStart (NotStarted number line) = notStarted number line
 
 -- .. and of a reopening
 abbrev pub reopenStart : Reopened → Start
-reopenStart (Opened s lines trailing) = started s lines trailing
+reopenStart (Opened s lines trailing) = startedInC s lines trailing
 reopenStart (NotOpened number line) = notStarted number line
 
 -- ---- with the buffers after the call

@@ -1,6 +1,6 @@
 // The answer of a fresh session (SCOPE 7.2) and of reopening (SCOPE 9.3) in numbers, for the C boundary.
 ghost use mathlib.Core.Path.{_≡_};
-ghost use Rattle.host_starts.specs.Sessions.{started, notStarted, freshStart, reopenStart};
+ghost use Rattle.host_starts.specs.Sessions.{startedInC, notStarted, freshStart, reopenStart};
 use config::ChunkPos;
 use config::TerrainConfig;
 use config::refusals::OK;
@@ -20,7 +20,7 @@ pub struct Start {
 }
 
 fn begin(session: Session, lines: usize, trailing: usize) -> Start
-    ensures { λ r. ⌜ r ≡ started session lines trailing ⌝ }
+    ensures { λ r. ⌜ r ≡ startedInC session lines trailing ⌝ }
 {
     Start {
         session,

@@ -25,8 +25,8 @@ use Rattle.marked.specs.Example.{Example, number, numbers, everywhere, h
 abbrev desertAt : ℕ → ℕ
 desertAt depth = selectBlock Desert (pos 0) (pos depth) (pos 24)
 
-abbrev topAt : Biome → ℕ → ℕ → ℕ
-topAt b wy height = selectBlock b (pos wy) (pos height) (pos 24)
+abbrev topBlock : Biome → ℕ → ℕ → ℕ
+topBlock b wy height = selectBlock b (pos wy) (pos height) (pos 24)
 
 -- the refusal of a place at size 64 in a world of a height
 abbrev limitsAt : ℤ → ℕ → ℕ
@@ -39,15 +39,15 @@ rows-d = number (desertAt 4) SAND ∷ number (desertAt 5) GRAVEL ∷ number (des
 -- e: the last of the stone, the first and the last of the gravel, the first that is always snow
 abbrev pub rows-e : List Example
 rows-e =
-    number (topAt Mountain 39 40) STONE
-    ∷ number (topAt Mountain 40 41) GRAVEL
-    ∷ number (topAt Mountain 54 55) GRAVEL
-    ∷ number (topAt Mountain 70 71) SNOW
+    number (topBlock Mountain 39 40) STONE
+    ∷ number (topBlock Mountain 40 41) GRAVEL
+    ∷ number (topBlock Mountain 54 55) GRAVEL
+    ∷ number (topBlock Mountain 70 71) SNOW
     ∷ []
 
 -- f: the last of the sand, the first of the grass
 abbrev pub rows-f : List Example
-rows-f = number (topAt Plains 25 26) SAND ∷ number (topAt Plains 26 27) GRASS ∷ []
+rows-f = number (topBlock Plains 25 26) SAND ∷ number (topBlock Plains 26 27) GRASS ∷ []
 
 -- g: both crowns
 abbrev pub rows-g : List Example

@@ -14,12 +14,12 @@ use Rattle.grid.specs.Cube.{inside, putAt, seeAt}
 use Rattle.grid.specs.Count.{nonAirCount}
 use Rattle.journal_format.specs.Fields.{fields, joinTabs, wholeOf, integerOf, integersOf, taggedOf}
 use Rattle.journal_format.specs.Line.{set, cellOk, setOf, columnOk, columnOf, lineOf, headerOf}
-use Rattle.journal_format.specs.Journal.{linesFrom, lines, committed, after, active, read, follow}
+use Rattle.journal_format.specs.Journal.{linesFrom, lines, committed, afterLine, active, read, follow}
 use Rattle.ground.specs.Ground.{ground}
 use Rattle.journal_open.specs.Opens.{openingOf}
 use Rattle.journal_open.specs.declared.Opening.the-variants.{Opens}
 use Rattle.session_calls.specs.Asked.{layEdit, layAll}
-use Rattle.session_calls.specs.Calls.{session, Resumed, resumed, configOf, posOf, openWith, reopenDoes}
+use Rattle.session_calls.specs.Calls.{session, Resumed, resumed, configOf, posOf, openWith, sessionReopenDoes}
 use Rattle.session_calls.specs.declared.Reopened.the-variants.{Opened}
 use Rattle.session_reopen.proofs.Opens.{open-with}
 use Rattle.session_reopen.proofs.Reopens.{fromOpening, reopen-is}
@@ -57,7 +57,7 @@ unfolding openingOf lines linesFrom committed headerOf taggedOf fields integersO
 opens = refl
 
 later : follow 2 2 (active []) (lines (drop 23 (take 45 listingJournal))) ≡ read (active (set 0 0 0 0 ∷ []))
-unfolding follow after lines linesFrom lineOf taggedOf fields integersOf integerOf wholeOf setOf cellOk columnOf columnOk
+unfolding follow afterLine lines linesFrom lineOf taggedOf fields integersOf integerOf wholeOf setOf cellOk columnOf columnOk
 later = refl
 
 limits : limitRefusal first ≡ 0
@@ -84,7 +84,7 @@ many = refl
 abbrev opened : List ℕ → ℕ → Resumed
 opened c n = resumed (Opened (session listingConfig listingPlace (nonAirCount c) 45 1) (suc n) 3) c
 
-reopened : (c : List ℕ) → length c ≡ 8 → reopenDoes c listingJournal 48 ≡ opened laid 3
+reopened : (c : List ℕ) → length c ≡ 8 → sessionReopenDoes c listingJournal 48 ≡ opened laid 3
 reopened c e =
     reopen-is c listingJournal 48
     ∙ ap (fromOpening c listingJournal 48) opens

@@ -7,19 +7,19 @@ use lib.IntN.{ℤ}
 use lib.Ieee.{Float}
 use Rattle.noise.specs.Noise.{next}
 use Rattle.noise_tables.specs.Row.{at}
-use Rattle.noise_layers.specs.Layers.{wholeAt, edgeAt, Laid, Layered}
+use Rattle.noise_layers.specs.Layers.{wholeAt, edgeAt, RowLaid, Layered}
 
 -- the same row by other names of its level, its z and its length
 pub laid-same : (to base : ℕ) (floors : List ℕ) (eases old new : List Float) {n m : ℕ} {y v z w : ℤ} → n ≡ m → y ≡ v → z ≡ w
-    → Laid to n (edgeAt y z base floors eases) old new → Laid to m (edgeAt v w base floors eases) old new
+    → RowLaid to n (edgeAt y z base floors eases) old new → RowLaid to m (edgeAt v w base floors eases) old new
 laid-same to base floors eases old new {n} {m} {y} {v} {z} {w} e p q l =
-    subst (λ (u : ℤ). Laid to m (edgeAt v u base floors eases) old new) q
-    (subst (λ (u : ℤ). Laid to m (edgeAt u z base floors eases) old new) p
-    (subst (λ (u : ℕ). Laid to u (edgeAt y z base floors eases) old new) e l))
+    subst (λ (u : ℤ). RowLaid to m (edgeAt v u base floors eases) old new) q
+    (subst (λ (u : ℤ). RowLaid to m (edgeAt u z base floors eases) old new) p
+    (subst (λ (u : ℕ). RowLaid to u (edgeAt y z base floors eases) old new) e l))
 
 module _ (o ky kz n : ℕ) (floors : List ℕ) (eases : List Float) where
   abbrev row : ℕ → ℤ → ℤ → List Float → List Float → Type 0
-  row to y z old new = Laid to n (edgeAt y z (o * 64) floors eases) old new
+  row to y z old new = RowLaid to n (edgeAt y z (o * 64) floors eases) old new
 
   -- four rows, each beside the others
   pub layered : (old a b c new : List Float) → n ≤ 64

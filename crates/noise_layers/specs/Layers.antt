@@ -33,17 +33,17 @@ abbrev pub Hashes : ℤ → ℤ → ℕ → Float → Float → Type 0
 Hashes iy iz x a b = (a ≡ hash3₃₂ (toZ w32 x) iy iz) × (b ≡ hash3₃₂ (next (toZ w32 x)) iy iz)
 
 -- n places from `to` on hold f 0, f 1, .., and all others what they held
-pub record Laid (to n : ℕ) (f : ℕ → Float) (old new : List Float) : Type 0 where
+pub record RowLaid (to n : ℕ) (f : ℕ → Float) (old new : List Float) : Type 0 where
   pub long : length new ≡ length old
   pub holds : (i : ℕ) → i < n → at new (to + i) ≡ f i
   pub below : (j : ℕ) → j < to → at new j ≡ at old j
   pub above : (j : ℕ) → to + n ≤ j → at new j ≡ at old j
 
 module _ (to : ℕ) (f : ℕ → Float) (old : List Float) where
-  pub laid-none : Laid to 0 f old old
+  pub laid-none : RowLaid to 0 f old old
   laid-none = record { long = refl; holds = λ (i : ℕ) h. absurd (omega arith); below = λ (j : ℕ) h. refl; above = λ (j : ℕ) h. refl }
 
-  pub laid-more : (n : ℕ) (new : List Float) (v : Float) → to + n < length old → v ≡ f n → Laid to n f old new → Laid to (n + 1) f old (set new (to + n) v)
+  pub laid-more : (n : ℕ) (new : List Float) (v : Float) → to + n < length old → v ≡ f n → RowLaid to n f old new → RowLaid to (n + 1) f old (set new (to + n) v)
   laid-more n new v h e l = record {
     long = length-set new (to + n) v ∙ l .long;
     holds = λ (i : ℕ) k. here i k (ltb i n) refl;
@@ -64,7 +64,7 @@ module _ (to : ℕ) (f : ℕ → Float) (old : List Float) where
           ap (λ (u : ℕ). at (set new (to + n) v) (to + u)) q ∙ getD-set-same new (to + n) v nan (omega arith) ∙ e ∙ ap f (sym q)
 
 -- eight octaves of four rows of 64 places
-pub record Room (o ky kz n : ℕ) (floors : List ℕ) (eases edges : List Float) : Type 0 where
+pub record OctaveRoom (o ky kz n : ℕ) (floors : List ℕ) (eases edges : List Float) : Type 0 where
   pub octave : o < 8
   pub some : 0 < n
   pub most : n ≤ 64

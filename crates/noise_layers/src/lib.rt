@@ -3,7 +3,7 @@
 ghost use Prim.Native.Nat.{_+_, _*_, _≤_, _<_};
 ghost use lib.ListN.{length};
 ghost use Rattle.noise_tables.specs.Row.{Row};
-ghost use Rattle.noise_layers.specs.Layers.{edgeAt, Laid, Room, Layered, rowMore};
+ghost use Rattle.noise_layers.specs.Layers.{edgeAt, RowLaid, OctaveRoom, Layered, rowMore};
 use noise::hash3;
 use noise::lerp;
 use noise_tables::PLACES;
@@ -32,7 +32,7 @@ fn edge_row(
     edges: &mut [f32],
 )
     requires { ⌜ (0 < n) × (n ≤ 64) × (base ≤ 65536) × (to ≤ 65536) × (base + n ≤ length (now floors)) × (base + n ≤ length (now eases)) × (to + n ≤ length (now edges)) ⌝ }
-    ensures { λ _. ⌜ Laid to n (edgeAt iy iz base (now (floors .entry)) (now (eases .entry))) (now (edges .entry)) (now (edges .exit)) ⌝ }
+    ensures { λ _. ⌜ RowLaid to n (edgeAt iy iz base (now (floors .entry)) (now (eases .entry))) (now (edges .entry)) (now (edges .exit)) ⌝ }
 {
     let mut at = floors[base];
     let mut a = hash3(of_bits(at), iy, iz);
@@ -61,7 +61,7 @@ pub fn layer_rows(
     eases: &[f32],
     edges: &mut [f32],
 )
-    requires { ⌜ Room o ky kz n (now floors) (now eases) (now edges) ⌝ }
+    requires { ⌜ OctaveRoom o ky kz n (now floors) (now eases) (now edges) ⌝ }
     ensures { λ _. ⌜ Layered o ky kz n (now (floors .entry)) (now (eases .entry)) (now (edges .entry)) (now (edges .exit)) ⌝ }
 {
     let iy = of_bits(floors[ky]);

@@ -1,4 +1,4 @@
 pub mod Text
 pub mod Appended
-pub mod Parted
+pub mod Separated
 pub mod Fits

@@ -5,7 +5,7 @@ ghost use lib.ListN.{length};
 ghost use Rattle.text.specs.Decimal.{decimal};
 ghost use Rattle.openmap_lines.specs.Text.{okText, noText};
 ghost use Rattle.openmap_lines.specs.Appended.{Appended};
-ghost use Rattle.openmap_lines.specs.Parted.{parted};
+ghost use Rattle.openmap_lines.specs.Separated.{separated};
 ghost use Rattle.openmap_lines.specs.Fits.{Fits};
 
 // A fixed text.
@@ -50,9 +50,9 @@ fn put_field(out: &mut [u8], at: usize, n: u64) -> usize
 }
 
 // Field x of a line: a tab separates it from the one before.
-pub fn put_parted(out: &mut [u8], at: usize, x: usize, n: u64) -> usize
-    requires { ⌜ Fits (now out) at (parted x (decimal n)) ⌝ }
-    ensures { λ r. ⌜ Appended (now (out .entry)) at (parted x (decimal n)) (now (out .exit)) r ⌝ }
+pub fn put_separated(out: &mut [u8], at: usize, x: usize, n: u64) -> usize
+    requires { ⌜ Fits (now out) at (separated x (decimal n)) ⌝ }
+    ensures { λ r. ⌜ Appended (now (out .entry)) at (separated x (decimal n)) (now (out .exit)) r ⌝ }
 {
     if x == 0 {
         return put_number(out, at, n);

@@ -20,7 +20,7 @@ use Rattle.journal_open.specs.declared.Opening.{Opening}
 use Rattle.journal_open.specs.declared.Opening.the-variants.{Opens, Refused as Shut}
 use Rattle.journal_open.proofs.Accepts.{opening-facts}
 use Rattle.session_calls.specs.Record.{sizeOf, cube}
-use Rattle.session_calls.specs.Calls.{Resumed, resumed, configOf, posOf, openWith, openHeader, reopenDoes}
+use Rattle.session_calls.specs.Calls.{Resumed, resumed, configOf, posOf, openWith, openHeader, sessionReopenDoes}
 use Rattle.session_calls.specs.declared.Reopened.{Reopened}
 use Rattle.session_calls.specs.declared.Reopened.the-variants.{Opened, Refused}
 use Rattle.session_reopen.proofs.Numbers.{size-natural}
@@ -59,7 +59,7 @@ as-sized : (a : Reopened) (n : ℕ) (d : List ℕ) → length d ≡ n → SizedB
 as-sized (Opened s many trailing) n d e h = record { most = h .0; all = e ∙ h .1 }
 as-sized (Refused number line) n d e h = tt
 
-pub sized : (c j : List ℕ) (held : ℕ) (a : Reopened) (d : List ℕ) → resumed a d ≡ reopenDoes c j held → length d ≡ length c → Sized a d
+pub sized : (c j : List ℕ) (held : ℕ) (a : Reopened) (d : List ℕ) → resumed a d ≡ sessionReopenDoes c j held → length d ≡ length c → Sized a d
 sized c j held a d e l =
     as-sized a (length c) d l
     (subst (λ (r : Resumed). SizedBy (r .answer) (length c)) (sym (e ∙ reopen-is c j held)) (by-opening c j held (openingOf j held) refl))
@@ -75,7 +75,7 @@ module _ (j : List ℕ) (held : ℕ) (c o : List ℕ) where
   unfolding reportDoes
   few-bytes h k = rw (le-leb 4096 (length c) h, lt-leb 25000 (length o) k)
 
-  enough : 4096 ≤ length c → 25000 ≤ length o → told (reopenDoes (take (lentCells j held) c) j held) (drop (lentCells j held) c) o ≡ reportDoes j held c o
+  enough : 4096 ≤ length c → 25000 ≤ length o → told (sessionReopenDoes (take (lentCells j held) c) j held) (drop (lentCells j held) c) o ≡ reportDoes j held c o
   unfolding reportDoes
   enough h k = rw (le-leb 4096 (length c) h, le-leb 25000 (length o) k)
 
@@ -84,11 +84,11 @@ module _ (j : List ℕ) (held : ℕ) (c o : List ℕ) where
   text-told a d rest e r h = λ i. reported ((h .behind ∙ zero-add (length (answerText a d))) i) (d ++ rest) (h .bytes i)
 
   pub all-told : (n : ℕ) (a : Reopened) (d e : List ℕ) (r : ℕ) → 4096 ≤ length c → 25000 ≤ length o → n ≡ lentCells j held
-      → resumed a d ≡ reopenDoes (take n c) j held → Appended o 0 (answerText a d) e r → reported r (d ++ drop n c) e ≡ reportDoes j held c o
+      → resumed a d ≡ sessionReopenDoes (take n c) j held → Appended o 0 (answerText a d) e r → reported r (d ++ drop n c) e ≡ reportDoes j held c o
   all-told n a d e r h k l q t =
       text-told a d (drop n c) e r t
       ∙ ap (λ (x : Resumed). told x (drop n c) o) q
-      ∙ ap (λ (m : ℕ). told (reopenDoes (take m c) j held) (drop m c) o) l
+      ∙ ap (λ (m : ℕ). told (sessionReopenDoes (take m c) j held) (drop m c) o) l
       ∙ enough h k
 
 -- ---- no more is lent than 4,096 cells

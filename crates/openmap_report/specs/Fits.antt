@@ -13,7 +13,7 @@ Sized (Opened s lines trailing) c = Cube (sizeOf s) c
 Sized (Refused number line) c = Unit {0}
 
 -- an answer with its cells, and a buffer that holds the longest text
-pub record Tells (a : Reopened) (c o : List ℕ) : Type 0 where
+pub record Printable (a : Reopened) (c o : List ℕ) : Type 0 where
   pub sized : Sized a c
   pub few : length c ≤ 4096
   pub space : 25000 ≤ length o

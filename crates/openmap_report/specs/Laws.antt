@@ -25,7 +25,7 @@ use Rattle.journal_open.specs.declared.Opening.the-variants.{Opens, Refused}
 use Rattle.journal_open.proofs.Accepts.{opening-facts}
 use Rattle.session_calls.specs.Record.{cube}
 use Rattle.session_calls.specs.Asked.{layAll}
-use Rattle.session_calls.specs.Calls.{configOf, posOf, openWith, reopenDoes}
+use Rattle.session_calls.specs.Calls.{configOf, posOf, openWith, sessionReopenDoes}
 use Rattle.session_reopen.proofs.Opens.{open-six, open-with}
 use Rattle.session_reopen.proofs.Reopens.{fromOpening, reopen-is}
 use Rattle.openmap_lines.specs.Text.{fieldsLine, okText, noText, mapText}
@@ -34,14 +34,14 @@ use Rattle.openmap_report.specs.Report.{lentBy, lentCells, Reported, rep
 
 -- what the program prints for the held bytes of a journal, over these cells
 abbrev pub printed : List ℕ → ℕ → List ℕ → List ℕ
-printed j held c = reportText (reopenDoes (take (lentCells j held) c) j held)
+printed j held c = reportText (sessionReopenDoes (take (lentCells j held) c) j held)
 
 -- ---- texts that are not NO 6
 
 -- by the first byte
-ok-not-6 : (many standing count trailing : ℕ) (rows : List ℕ) (line : ℕ) → okText many standing count trailing ++ rows ≡ noText 6 line → ⊥
+ok-not-6 : (many actives count trailing : ℕ) (rows : List ℕ) (line : ℕ) → okText many actives count trailing ++ rows ≡ noText 6 line → ⊥
 unfolding okText noText fieldsLine joinTabs
-ok-not-6 many standing count trailing rows line e = let z : _≡_ {A = ℕ} 79 78 = ap (λ (t : List ℕ). getD t 0 0) e in omega arith
+ok-not-6 many actives count trailing rows line e = let z : _≡_ {A = ℕ} 79 78 = ap (λ (t : List ℕ). getD t 0 0) e in omega arith
 
 -- by the first digit of the number
 twelve-not-6 : (k line : ℕ) → noText 12 k ≡ noText 6 line → ⊥
@@ -95,7 +95,7 @@ module _ (j : List ℕ) (held : ℕ) (c : List ℕ) (enough : 4096 ≤ length c)
 
     -- so that the lines behind the first decide: the map that they give, or 12
     pub later-decide : natAbs (h .«chunk_size») ≤ 16
-        → reopenDoes (take (lentCells j held) c) j held
+        → sessionReopenDoes (take (lentCells j held) c) j held
         ≡ openWith (configOf h) (posOf h) n (suc (length (lines (drop second (take n j))))) (held - n) (take (lentCells j held) c)
         (follow (natAbs (h .«chunk_size»)) 2 (active []) (lines (drop second (take n j))))
     later-decide small =
@@ -131,9 +131,9 @@ unfolding reportDoes
 within j held c o = go (leb 4096 (length c) && leb 25000 (length o))
   where
     go : (b : Bool)
-        → length (pick b (told (reopenDoes (take (lentCells j held) c) j held) (drop (lentCells j held) c) o) (reported 0 c o) .out) ≡ length o
-        → pick b (told (reopenDoes (take (lentCells j held) c) j held) (drop (lentCells j held) c) o) (reported 0 c o) .answer ≤ length o
-    go true e = written-within o (reportText (reopenDoes (take (lentCells j held) c) j held)) e
+        → length (pick b (told (sessionReopenDoes (take (lentCells j held) c) j held) (drop (lentCells j held) c) o) (reported 0 c o) .out) ≡ length o
+        → pick b (told (sessionReopenDoes (take (lentCells j held) c) j held) (drop (lentCells j held) c) o) (reported 0 c o) .answer ≤ length o
+    go true e = written-within o (reportText (sessionReopenDoes (take (lentCells j held) c) j held)) e
     go false e = omega arith
 
 pub text-within : (j : List ℕ) (held : ℕ) (c o d e : List ℕ) (r : ℕ) → reported r d e ≡ reportDoes j held c o → length e ≡ length o → r ≤ length e

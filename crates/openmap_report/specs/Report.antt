@@ -11,7 +11,7 @@ use Rattle.journal_open.specs.Opens.{openingOf}
 use Rattle.journal_open.specs.declared.Opening.{Opening}
 use Rattle.journal_open.specs.declared.Opening.the-variants.{Opens, Refused}
 use Rattle.session_calls.specs.Record.{cube}
-use Rattle.session_calls.specs.Calls.{Resumed, reopenDoes}
+use Rattle.session_calls.specs.Calls.{Resumed, sessionReopenDoes}
 use Rattle.openmap_report.specs.Text.{reportText}
 
 -- SCOPE 11.1: size³ cells are lent where the first line has a size of at most 16, else all 4,096;
@@ -39,8 +39,8 @@ told r rest o = reported (length (reportText r)) (r .cells ++ rest) (written o 0
 
 -- with 4,096 cells and 25,000 bytes for the text at least; else the answer is 0 and nothing changes
 unfoldable pub reportDoes : List ℕ → ℕ → List ℕ → List ℕ → Reported
-unfolding lentCells reportText reopenDoes
+unfolding lentCells reportText sessionReopenDoes
 reportDoes j held c o =
     pick (leb 4096 (length c) && leb 25000 (length o))
-    (told (reopenDoes (take (lentCells j held) c) j held) (drop (lentCells j held) c) o)
+    (told (sessionReopenDoes (take (lentCells j held) c) j held) (drop (lentCells j held) c) o)
     (reported 0 c o)

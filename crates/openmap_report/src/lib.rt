@@ -8,7 +8,7 @@ ghost use Rattle.session_calls.specs.Record.{cube};
 ghost use Rattle.config.specs.Limits.{limitRefusal};
 ghost use Rattle.openmap_report.specs.Text.{answerText};
 ghost use Rattle.openmap_lines.specs.Appended.{Appended};
-ghost use Rattle.openmap_report.specs.Fits.{Tells};
+ghost use Rattle.openmap_report.specs.Fits.{Printable};
 ghost use Rattle.openmap_report.specs.Report.{lentCells, reported, reportDoes};
 use config::Header;
 use config::bounds::NUMBERS_MOST;
@@ -25,7 +25,7 @@ pub const TEXT_BYTES: usize = 25000;
 
 // The text of an answer, with the cells that the reopening left.
 fn put_answer(out: &mut [u8], cells: &[u16], answer: Reopened) -> usize
-    requires { ⌜ Tells answer (now cells) (now out) ⌝ }
+    requires { ⌜ Printable answer (now cells) (now out) ⌝ }
     ensures { λ r. ⌜ Appended (now (out .entry)) 0 (answerText answer (now (cells .entry))) (now (out .exit)) r ⌝ }
 {
     match answer {

@@ -14,7 +14,7 @@ use Rattle.basics.specs.Naturals.{split}
 use Rattle.text.specs.Decimal.{decimal, decimal-length}
 use Rattle.grid.specs.Cube.{cellIndex, inside, seeAt}
 use Rattle.journal_format.specs.Fields.{joinTabs}
-use Rattle.openmap_lines.specs.Parted.{parted}
+use Rattle.openmap_lines.specs.Separated.{separated}
 use Rattle.openmap_lines.specs.Text.{fieldsLine, fieldsOf, each, rowText, layerText, mapText}
 
 -- one field more
@@ -23,10 +23,10 @@ unfolding joinTabs
 join-more f [] g = refl
 join-more f (h ∷ fs) g = ap (λ (t : List ℕ). f ++ (9 ∷ t)) (join-more h fs g) ∙ sym (append-assoc f (9 ∷ joinTabs (h ∷ fs)) (9 ∷ g))
 
-join-parted : (fs : List (List ℕ)) (g : List ℕ) → joinTabs (fs ++ (g ∷ [])) ≡ joinTabs fs ++ parted (length fs) g
-unfolding joinTabs parted
-join-parted [] g = refl
-join-parted (f ∷ fs) g = rw (ne-eqb (suc (length fs)) 0 (λ z. omega arith)) (join-more f fs g)
+join-separated : (fs : List (List ℕ)) (g : List ℕ) → joinTabs (fs ++ (g ∷ [])) ≡ joinTabs fs ++ separated (length fs) g
+unfolding joinTabs separated
+join-separated [] g = refl
+join-separated (f ∷ fs) g = rw (ne-eqb (suc (length fs)) 0 (λ z. omega arith)) (join-more f fs g)
 
 fields-length : (n : ℕ) (f : ℕ → List ℕ) → length (fieldsOf n f) ≡ n
 unfolding fieldsOf
@@ -34,13 +34,13 @@ fields-length zero f = refl
 fields-length (suc n) f = let e = fields-length n f in simp length-append (omega arith)
 
 -- a line's fields one behind the other
-pub join-each : (n : ℕ) (f : ℕ → List ℕ) → joinTabs (fieldsOf n f) ≡ each n (λ x. parted x (f x))
+pub join-each : (n : ℕ) (f : ℕ → List ℕ) → joinTabs (fieldsOf n f) ≡ each n (λ x. separated x (f x))
 unfolding fieldsOf each joinTabs
 join-each zero f = refl
 join-each (suc n) f =
-    join-parted (fieldsOf n f) (f n)
-    ∙ ap (λ (k : ℕ). joinTabs (fieldsOf n f) ++ parted k (f n)) (fields-length n f)
-    ∙ ap (λ (t : List ℕ). t ++ parted n (f n)) (join-each n f)
+    join-separated (fieldsOf n f) (f n)
+    ∙ ap (λ (k : ℕ). joinTabs (fieldsOf n f) ++ separated k (f n)) (fields-length n f)
+    ∙ ap (λ (t : List ℕ). t ++ separated n (f n)) (join-each n f)
 
 pub each-more : (n : ℕ) (f : ℕ → List ℕ) → each n f ++ f n ≡ each (n + 1) f
 unfolding each
@@ -68,16 +68,16 @@ each-length (suc n) b f h = let e = each-length n b f (λ k l. h k (omega arith)
 
 -- the id at x of a row, with its tab
 unfoldable pub idText : ℕ → List ℕ → ℕ → ℕ → ℕ → List ℕ
-unfolding parted decimal seeAt
-idText size c z y x = parted x (decimal (seeAt size x y z c))
+unfolding separated decimal seeAt
+idText size c z y x = separated x (decimal (seeAt size x y z c))
 
 pub row-is : (size : ℕ) (c : List ℕ) (z y : ℕ) → each size (idText size c z y) ++ (10 ∷ []) ≡ rowText size c z y
 unfolding rowText fieldsLine idText
 row-is size c z y = ap (λ (t : List ℕ). t ++ (10 ∷ [])) (sym (join-each size (λ x. decimal (seeAt size x y z c))))
 
-pub id-is : (size : ℕ) (c : List ℕ) (z y x r : ℕ) → r ≡ seeAt size x y z c → parted x (decimal r) ≡ idText size c z y x
+pub id-is : (size : ℕ) (c : List ℕ) (z y x r : ℕ) → r ≡ seeAt size x y z c → separated x (decimal r) ≡ idText size c z y x
 unfolding idText
-id-is size c z y x r e = ap (λ (n : ℕ). parted x (decimal n)) e
+id-is size c z y x r e = ap (λ (n : ℕ). separated x (decimal n)) e
 
 -- space for a row is space for its ids and the LF
 pub row-space : (size : ℕ) (c : List ℕ) (z y p n : ℕ) → p + length (rowText size c z y) ≤ n → p + length (each size (idText size c z y)) + 1 ≤ n
@@ -98,9 +98,9 @@ id-small size c h x y z = go (inside size x y z)
     go true = h (cellIndex size x y z)
     go false = omega arith
 
-parted-length : (x : ℕ) (t : List ℕ) → length (parted x t) ≤ 1 + length t
-unfolding parted
-parted-length x t = go (eqb x 0)
+separated-length : (x : ℕ) (t : List ℕ) → length (separated x t) ≤ 1 + length t
+unfolding separated
+separated-length x t = go (eqb x 0)
   where
     go : (b : Bool) → length (pick b t (9 ∷ t)) ≤ 1 + length t
     go true = omega arith
@@ -110,7 +110,7 @@ module _ (size : ℕ) (c : List ℕ) (ids : Ids c) where
   pub id-length : (z y x : ℕ) → length (idText size c z y x) ≤ 6
   unfolding idText
   id-length z y x =
-      let a = parted-length x (decimal (seeAt size x y z c)) in
+      let a = separated-length x (decimal (seeAt size x y z c)) in
       let b = decimal-length 4 (seeAt size x y z c) (let h = id-small size c ids x y z in omega arith) in
       omega arith
 

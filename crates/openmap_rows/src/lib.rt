@@ -11,7 +11,7 @@ fn put_row(out: &mut [u8], at: usize, cells: &[u16], size: usize, z: usize, y: u
     let mut p = at;
     let mut x: usize = 0;
     while x < size {
-        p = openmap_lines::put_parted(out, p, x, grid::see(cells, size, x, y, z) as u64);
+        p = openmap_lines::put_separated(out, p, x, grid::see(cells, size, x, y, z) as u64);
         x += 1;
     }
     openmap_lines::put_byte(out, p, b'\n')

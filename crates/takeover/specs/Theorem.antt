@@ -11,7 +11,7 @@ use Rattle.journal_format.specs.Line.{headerText}
 use Rattle.journal_format.specs.Journal as J
 use Rattle.journal_format.specs.Lines.{NoLF, noLF-append}
 use Rattle.journal_format.specs.RoundTrip.{header-noLF}
-use Rattle.session_calls.specs.Calls.{Outcome, Begun, freshDoes, Resumed, resumed}
+use Rattle.session_calls.specs.Calls.{Outcome, Begun, sessionFreshDoes, Resumed, resumed}
 use Rattle.session_calls.specs.declared.Reply.{Reply}
 use Rattle.session_calls.specs.declared.Reopened.the-variants.{Refused}
 use Rattle.takeover_model.specs.Model.{Call, modelFresh, modelRun}
@@ -26,19 +26,19 @@ use Rattle.takeover.specs.Demand.{model, firstLine, TakenOver, TakeoverT
 
 -- ---- what was made is what `run` and `replies` say
 
-record Ran (t : Tablet) (ks : List Call) (rs : List Reply) (u : Tablet) : Type 0 where
+record RanAs (t : Tablet) (ks : List Call) (rs : List Reply) (u : Tablet) : Type 0 where
   last : u ≡ run t ks
   answers : rs ≡ replies t ks
 
 -- one step: the outcome o of a call on t
-step : {t u : Tablet} {ks : List Call} {rs : List Reply} (k : Call) (o : Outcome) → o ≡ does t k → Ran (leaves o) ks rs u → Ran t (k ∷ ks) (o .reply ∷ rs) u
+step : {t u : Tablet} {ks : List Call} {rs : List Reply} (k : Call) (o : Outcome) → o ≡ does t k → RanAs (leaves o) ks rs u → RanAs t (k ∷ ks) (o .reply ∷ rs) u
 unfolding run replies
 step {ks = ks} k o l r = record {
   last = r .last ∙ ap (λ (p : Outcome). run (leaves p) ks) l;
   answers = ap (λ (xs : List Reply). o .reply ∷ xs) (r .answers) ∙ ap (λ (p : Outcome). p .reply ∷ replies (leaves p) ks) l;
 }
 
-ran : {t u : Tablet} {ks : List Call} {rs : List Reply} → Made t ks rs u → Ran t ks rs u
+ran : {t u : Tablet} {ks : List Call} {rs : List Reply} → Made t ks rs u → RanAs t ks rs u
 unfolding run replies does
 ran none = record { last = refl; answers = refl }
 ran (set κs c x y z id h l p) = step (M.set x y z id h) (gave c) l (ran p)
@@ -66,7 +66,7 @@ after-ran (suc n) (form k o l p) = after-step _ _ n k o (after n p) l (after-ran
 -- ---- the fresh session
 
 module _ (f : First) where
-  start : Fresher (f .config) (f .place) (now (f .cells)) (now (f .journal)) (freshDoes (f .config) (f .place) (now (f .cells)) (now (f .journal))) (f .session)
+  start : Fresher (f .config) (f .place) (now (f .cells)) (now (f .journal)) (sessionFreshDoes (f .config) (f .place) (now (f .cells)) (now (f .journal))) (f .session)
   start = fresh-holds (f .config) (f .place) (now (f .cells)) (now (f .journal)) (f .session) (sym (ap (λ (b : Begun). b .answer) (f .gives)))
 
   holds : Holds (model f) (began f)
@@ -79,8 +79,8 @@ module _ (f : First) where
   beside : (ks : List Call) → Along (model f) (began f) ks
   beside ks = along (model f) (began f) (start .good) holds ks
 
-  as-machine : (ks : List Call) → AsModel (modelRun (model f) ks) (run (began f) ks)
-  as-machine ks = as-model (modelRun (model f) ks) (run (began f) ks) (beside ks .good) (beside ks .holds)
+  as-model-after : (ks : List Call) → AsModel (modelRun (model f) ks) (run (began f) ks)
+  as-model-after ks = as-model (modelRun (model f) ks) (run (began f) ks) (beside ks .good) (beside ks .holds)
 
   laid-so : (ks : List Call) → Laid (run (began f) ks)
   laid-so ks = laid-on (modelRun (model f) ks) (run (began f) ks) (beside ks .good) (beside ks .holds)
@@ -125,7 +125,7 @@ module _ (f : First) {calls : List Call} {rs : List Reply} {t : Tablet} (made : 
           trailing = k .trailing;
           answer = ap (λ (r : Resumed). r .answer) e;
           lines-are = k .lines-are ∙ ap (λ (u : Tablet). length (J.lines (usedBytes u))) (sym second);
-          trailing-are = k .loose;
+          trailing-are = k .trailing-is;
           count = k .count;
           whole = record {
             most = k .most;
@@ -156,8 +156,8 @@ module _ (f : First) {calls : List Call} {rs : List Reply} {t : Tablet} (made : 
 -- SCOPE 9.5, in one piece.
 pub takeover : TakeoverTheorem
 takeover f calls rs t made = record {
-  each = λ n. at f made (λ (u : Tablet). AsModel (modelRun (model f) (take n calls)) u) n (as-machine f (take n calls));
-  last = subst (λ (u : Tablet). AsModel (modelRun (model f) calls) u) (sym (ran made .last)) (as-machine f calls);
+  each = λ n. at f made (λ (u : Tablet). AsModel (modelRun (model f) (take n calls)) u) n (as-model-after f (take n calls));
+  last = subst (λ (u : Tablet). AsModel (modelRun (model f) calls) u) (sym (ran made .last)) (as-model-after f calls);
   laid = λ n. at f made Laid n (laid-so f (take n calls));
   answers = ran made .answers ∙ same-replies (model f) (began f) (start f .good) (holds f) calls;
   cut = λ confirmed q tail o c. record { no-first-line = no-first-line f made confirmed q tail o c; taken-over = taken-over f made confirmed q tail o c };

@@ -10,7 +10,7 @@ use Rattle.session_calls.specs.declared.Fresh.{Fresh}
 use Rattle.session_calls.specs.declared.Fresh.the-variants.{Started}
 use Rattle.session_calls.specs.declared.Reply.{Reply}
 use Rattle.session_calls.specs.declared.Session.{Session}
-use Rattle.session_calls.specs.Calls.{Outcome, begun, freshDoes, reopenDoes}
+use Rattle.session_calls.specs.Calls.{Outcome, begun, sessionFreshDoes, sessionReopenDoes}
 use Rattle.takeover_model.specs.Model.{Call}
 use Rattle.takeover_model.specs.Model as M
 use Rattle.takeover_model.specs.Statement.{Tablet, leaves, does}
@@ -70,9 +70,9 @@ makes t (M.undo ∷ ks) =
     more o rest (C.undo two (turn t o) refl (rest .made))
 
 -- a fresh session that is accepted is a first tablet
-abbrev pub first : (config : TerrainConfig) (place : ChunkPos) (c j : List ℕ) (s : Session) → freshDoes config place c j .answer ≡ Started s → First
+abbrev pub first : (config : TerrainConfig) (place : ChunkPos) (c j : List ℕ) (s : Session) → sessionFreshDoes config place c j .answer ≡ Started s → First
 first config place c j s e =
-    let o = freshDoes config place c j in
+    let o = sessionFreshDoes config place c j in
     record {
       lifetimes = two;
       config = config;
@@ -92,7 +92,7 @@ second c j held = record {
   cells = holding c;
   journal = holding j;
   held = held;
-  answer = reopenDoes c j held .answer;
-  cells′ = holding (reopenDoes c j held .cells);
+  answer = sessionReopenDoes c j held .answer;
+  cells′ = holding (sessionReopenDoes c j held .cells);
   gives = refl;
 }

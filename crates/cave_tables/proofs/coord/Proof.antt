@@ -6,7 +6,7 @@ use lib.Ieee.{binary32, ofInt}
 use mir.Syntax.{w32}
 use borrow.Author.Tests.{lt-ltb, le-ltb}
 use Rattle.basics.specs.Words.{read, back}
-use Rattle.cave_tables.specs.Coords.{xOf, yOf, zOf, coordOf}
+use Rattle.cave_tables.specs.Coords.{xOf, yOf, zOf, caveCoord}
 use Rattle.cave_tables.proofs.coord.Statement.{statement}
 use Rattle.cave_tables.proofs.coord.Tie as tie
 
@@ -20,7 +20,7 @@ x-at-requires : tie.Need-x-at-requires
 x-at-requires c κs = search needs
 
 returns : tie.Need-returns
-unfolding coordOf
+unfolding caveCoord
 returns c =
     let s = c .before .before .before .before .before in
     let w =
@@ -37,7 +37,7 @@ y-at-requires : tie.Need-y-at-requires
 y-at-requires c κs = search needs
 
 returns-2 : tie.Need-returns-2
-unfolding coordOf
+unfolding caveCoord
 returns-2 c =
     let s = c .before .before .before .before .before .before in
     let w =
@@ -54,7 +54,7 @@ z-at-requires : tie.Need-z-at-requires
 z-at-requires c κs = search needs
 
 returns-3 : tie.Need-returns-3
-unfolding coordOf
+unfolding caveCoord
 returns-3 c =
     let s = c .before .before .before .before .before .before in
     let w =

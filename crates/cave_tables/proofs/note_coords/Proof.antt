@@ -4,13 +4,13 @@ use Prim.Native.Nat.{_-_, _≤_, _<_}
 use native.Mathlib.Omega.{arith}
 use lib.ListN.{length}
 use Rattle.noise_tables.specs.Places.{Noted, noted-none, noted-more}
-use Rattle.cave_tables.specs.Coords.{coordOf}
+use Rattle.cave_tables.specs.Coords.{caveCoord}
 use Rattle.cave_tables.proofs.note_coords.Statement.{statement}
 use Rattle.cave_tables.proofs.note_coords.Tie as tie
 
 abbrev Inv-loop : tie.InvT-loop
 Inv-loop f ts₀ floors₀ eases₀ n o₀ ts floors eases o =
-    (o ≤ 27) × (length ts ≡ length ts₀) × Noted (f .size) o (coordOf f) floors eases × (length floors ≡ 1728) × (length eases ≡ 1728)
+    (o ≤ 27) × (length ts ≡ length ts₀) × Noted (f .size) o (caveCoord f) floors eases × (length floors ≡ 1728) × (length eases ≡ 1728)
 
 abbrev μ-loop : tie.MeasureT-loop
 μ-loop f ts₀ floors₀ eases₀ n o₀ ts floors eases o = 27 - o
@@ -18,7 +18,7 @@ abbrev μ-loop : tie.MeasureT-loop
 loop-holds : tie.Need-loop-holds Inv-loop μ-loop
 loop-holds c =
     let s = c .before .before .before in
-    (omega arith, refl, noted-none (s .args .f .size) (coordOf (s .args .f)) (s .args .floors .now) (s .args .eases .now), s .pre .2, s .pre .3)
+    (omega arith, refl, noted-none (s .args .f .size) (caveCoord (s .args .f)) (s .args .floors .now) (s .args .eases .now), s .pre .2, s .pre .3)
 
 fill-coords-requires : tie.Need-fill-coords-requires Inv-loop μ-loop
 fill-coords-requires c κs =
@@ -61,7 +61,7 @@ loop-again c =
     let t : l .o < 27 = c .before .before .before .before .before .before .before .before .before .before .before .before .loop-test .taken in
     let r = c .before .before .before .before .before .before .before .before .before .before .fill-coords .ensures in
     let q = c .before .before .before .before .note-octave .ensures in
-    (omega arith, c .before .before .before .before .before .before .before .before .before .ts .given ∙ l .inv .1, noted-more (s .args .f .size) (coordOf (s .args .f)) (l .o) _ _ _ _ _ (s .pre .0 .most) (r .holds) q (l .inv .2), q .long ∙ l .inv .3, q .longer ∙ l .inv .4)
+    (omega arith, c .before .before .before .before .before .before .before .before .before .ts .given ∙ l .inv .1, noted-more (s .args .f .size) (caveCoord (s .args .f)) (l .o) _ _ _ _ _ (s .pre .0 .most) (r .holds) q (l .inv .2), q .long ∙ l .inv .3, q .longer ∙ l .inv .4)
 
 same-length : tie.Need-same-length Inv-loop μ-loop
 same-length c = c .before .loop .inv .1

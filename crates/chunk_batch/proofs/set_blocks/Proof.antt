@@ -7,9 +7,9 @@ use native.Mathlib.Omega.{arith}
 use lib.ListN.{length}
 use Rattle.grid.specs.Grid.{cube-most}
 use Rattle.chunk.specs.Tests.{Chunk, CountOk, chunkRefusal, chunk-passed, cube-of, count-passed}
-use Rattle.config.specs.Answers.{accepted, outcome}
+use Rattle.config.specs.Answers.{accepted, cellsOutcome}
 use Rattle.chunk.specs.Moves.{edit-input, edit-count, edit-done}
-use Rattle.chunk_batch.specs.Calls.{batchDoes}
+use Rattle.chunk_batch.specs.Calls.{chunkBatchDoes}
 use Rattle.chunk_batch.proofs.set_blocks.Statement.{statement}
 use Rattle.chunk_batch.proofs.set_blocks.Tie as tie
 
@@ -17,7 +17,7 @@ refuse-chunk-requires : tie.Need-refuse-chunk-requires
 refuse-chunk-requires c κs = search needs
 
 returns : tie.Need-returns
-unfolding batchDoes
+unfolding chunkBatchDoes
 returns c = edit-input _ _ _ _ _ _ _ (c .before .refuse-chunk .ensures) (c .if1 .taken)
 
 -- past the tests of the input
@@ -42,7 +42,7 @@ same-length : tie.Need-same-length
 same-length c = search needs
 
 returns-2 : tie.Need-returns-2
-unfolding batchDoes
+unfolding chunkBatchDoes
 returns-2 c =
     let b = c .before .before in
     edit-count _ _ _ _ _ _ _ _ (none (b .before .before)) (b .any-change .ensures .moves) _ (c .before .refuse-change .ensures) (c .if2 .taken)
@@ -77,7 +77,7 @@ same-length-2 : tie.Need-same-length-2
 same-length-2 c = search needs
 
 returns-3 : tie.Need-returns-3
-unfolding batchDoes
+unfolding chunkBatchDoes
 returns-3 c =
     let l = c .before .before .before .before in
     let n = l .before .before in
@@ -85,7 +85,7 @@ returns-3 c =
     let b = e .before .before in
     let a = start (first e) .args in
     let r = b .any-change .result in
-    ap₂ (λ (k : ℕ) (d : List ℕ). outcome (accepted (k ∷ (a .count + r .after - r .before) ∷ [])) d) (n .count-inside .ensures) (l .lay-groups .ensures)
+    ap₂ (λ (k : ℕ) (d : List ℕ). cellsOutcome (accepted (k ∷ (a .count + r .after - r .before) ∷ [])) d) (n .count-inside .ensures) (l .lay-groups .ensures)
     ∙ edit-done _ _ _ (_ ∷ []) _ _ _ _ (none (first e)) (b .any-change .ensures .moves) _ (e .before .refuse-change .ensures) (e .if2 .left)
 
 pub set-blocks-spec : {M : Type 1} → statement M

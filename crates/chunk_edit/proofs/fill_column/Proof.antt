@@ -6,8 +6,8 @@ use mathlib.Core.List.{List, [], _∷_}
 use borrow.Author.Needs.{needs}
 use Rattle.grid.specs.Grid.{cube-most}
 use Rattle.chunk.specs.Tests.{chunk-passed, cube-of, count-passed}
-use Rattle.config.specs.Answers.{accepted, outcome}
-use Rattle.chunk_edit.specs.Calls.{fillDoes}
+use Rattle.config.specs.Answers.{accepted, cellsOutcome}
+use Rattle.chunk_edit.specs.Calls.{chunkFillDoes}
 use Rattle.chunk.specs.Moves.{edit-input, edit-count, edit-done, fill-moves, fill-lays, height-most, column-small}
 use Rattle.grid.specs.Count.{non-air-most}
 use Rattle.chunk_edit.proofs.fill_column.Statement.{statement}
@@ -17,7 +17,7 @@ refuse-chunk-requires : tie.Need-refuse-chunk-requires
 refuse-chunk-requires c κs = search needs
 
 returns : tie.Need-returns
-unfolding fillDoes
+unfolding chunkFillDoes
 returns c = edit-input _ _ _ _ _ _ _ (c .before .refuse-chunk .ensures) (c .if1 .taken)
 
 column-height-requires : tie.Need-column-height-requires
@@ -71,7 +71,7 @@ same-length : tie.Need-same-length
 same-length c = search needs
 
 returns-2 : tie.Need-returns-2
-unfolding fillDoes
+unfolding chunkFillDoes
 returns-2 c =
     let b = c .before .before .before .before .before in
     let e = sym (b .before .before .refuse-chunk .ensures) ∙ b .before .if1 .left in
@@ -113,7 +113,7 @@ same-length-2 : tie.Need-same-length-2
 same-length-2 c = search needs
 
 returns-3 : tie.Need-returns-3
-unfolding fillDoes
+unfolding chunkFillDoes
 returns-3 c =
     let b = c .before .before .before .before .before .before .before .before .before in
     let e = sym (b .before .before .refuse-chunk .ensures) ∙ b .before .if1 .left in
@@ -122,7 +122,7 @@ returns-3 c =
     let v = c .before .before .before .before .before .before .non-air in let n = c .before .before .before .before .before .before .before .column-count in
     let m =
     fill-moves (a .size) (a .x) (a .z) (a .height) (a .id) _ _ _ (a .cells .now) (h .all) (b .column-height .ensures) (n .ensures) (ap (λ (k : ℕ). b .column-height .result * k) (v .ensures)) in
-    ap (λ (d : List ℕ). outcome (accepted ((a .count + b .column-height .result * v .result - n .result) ∷ [])) d) (fill-lays (a .size) (a .x) (a .z) (a .height) (a .id) _ (a .cells .now) _ (b .column-height .ensures) (c .before .before .lay-column .ensures))
+    ap (λ (d : List ℕ). cellsOutcome (accepted ((a .count + b .column-height .result * v .result - n .result) ∷ [])) d) (fill-lays (a .size) (a .x) (a .z) (a .height) (a .id) _ (a .cells .now) _ (b .column-height .ensures) (c .before .before .lay-column .ensures))
     ∙ edit-done _ _ _ [] _ _ _ _ e m _ (c .before .before .before .before .before .refuse-count .ensures) (c .before .before .before .before .if2 .left)
 
 pub fill-column-spec : {M : Type 1} → statement M

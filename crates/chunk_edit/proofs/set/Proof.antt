@@ -6,8 +6,8 @@ use mathlib.Core.List.{List, [], _∷_}
 use borrow.Author.Needs.{needs}
 use Rattle.grid.specs.Grid.{cube-most}
 use Rattle.chunk.specs.Tests.{cell-passed, cell-at, chunk-most, count-passed}
-use Rattle.config.specs.Answers.{accepted, outcome}
-use Rattle.chunk_edit.specs.Calls.{setDoes}
+use Rattle.config.specs.Answers.{accepted, cellsOutcome}
+use Rattle.chunk_edit.specs.Calls.{chunkSetDoes}
 use Rattle.chunk.specs.Moves.{edit-input, edit-count, edit-done, set-moves, set-lays}
 use Rattle.grid.specs.Count.{non-air-most}
 use Rattle.chunk_edit.proofs.set.Statement.{statement}
@@ -17,7 +17,7 @@ refuse-cell-requires : tie.Need-refuse-cell-requires
 refuse-cell-requires c κs = search needs
 
 returns : tie.Need-returns
-unfolding setDoes
+unfolding chunkSetDoes
 returns c = edit-input _ _ _ _ _ _ _ (c .before .refuse-cell .ensures) (c .if1 .taken)
 
 cell-index-requires : tie.Need-cell-index-requires
@@ -54,7 +54,7 @@ refuse-count-requires c κs =
     (h .chunk .most, omega arith)
 
 returns-2 : tie.Need-returns-2
-unfolding setDoes
+unfolding chunkSetDoes
 returns-2 c =
     let b = c .before .before .before .before .before in
     let e = sym (b .before .before .refuse-cell .ensures) ∙ b .before .if1 .left in
@@ -102,7 +102,7 @@ same-length : tie.Need-same-length
 same-length c = search needs
 
 returns-3 : tie.Need-returns-3
-unfolding setDoes
+unfolding chunkSetDoes
 returns-3 c =
     let b = c .before .before .before .before .before in
     let e = sym (b .before .before .refuse-cell .ensures) ∙ b .before .if1 .left in
@@ -110,7 +110,7 @@ returns-3 c =
     let a = b .before .before .before .before .args in
     let m =
     set-moves (a .size) (a .x) (a .y) (a .z) (a .id) _ _ _ (a .cells .now) h (b .cell-index .ensures) (c .before .before .before .non-air .ensures) (c .before .before .non-air2 .ensures) in
-    ap (λ (d : List ℕ). outcome (accepted ((a .count + c .before .before .non-air2 .result - c .before .before .before .non-air .result) ∷ [])) d) (set-lays (a .size) (a .x) (a .y) (a .z) (a .id) _ (a .cells .now) h (b .cell-index .ensures))
+    ap (λ (d : List ℕ). cellsOutcome (accepted ((a .count + c .before .before .non-air2 .result - c .before .before .before .non-air .result) ∷ [])) d) (set-lays (a .size) (a .x) (a .y) (a .z) (a .id) _ (a .cells .now) h (b .cell-index .ensures))
     ∙ edit-done _ _ _ [] _ _ _ _ e m _ (c .before .refuse-count .ensures) (c .if2 .left)
 
 pub set-spec : {M : Type 1} → statement M

@@ -7,7 +7,7 @@ use lib.ListN.{getD}
 use borrow.Author.Needs.{needs}
 use Rattle.config.specs.Answers.{accepted, refusedWith, is-refused, not-refused}
 use Rattle.chunk.specs.Tests.{cell-passed, cell-at, chunk-most}
-use Rattle.chunk_look.specs.Calls.{getDoes}
+use Rattle.chunk_look.specs.Calls.{chunkGetDoes}
 use Rattle.chunk_look.proofs.get.Statement.{statement}
 use Rattle.chunk_look.proofs.get.Tie as tie
 
@@ -15,7 +15,7 @@ refuse-cell-requires : tie.Need-refuse-cell-requires
 refuse-cell-requires c κs = search needs
 
 returns : tie.Need-returns
-unfolding getDoes
+unfolding chunkGetDoes
 returns c = let e = c .before .refuse-cell .ensures in ap refusedWith e ∙ sym (is-refused _ _ _ (λ q. c .if1 .taken (e ∙ q)))
 
 cell-index-requires : tie.Need-cell-index-requires
@@ -39,7 +39,7 @@ shared-slice-read-t11 c =
     omega arith
 
 returns-2 : tie.Need-returns-2
-unfolding getDoes
+unfolding chunkGetDoes
 returns-2 c = let e = sym (c .before .before .before .refuse-cell .ensures) ∙ c .before .before .if1 .left in
     ap (λ (i : ℕ). accepted (getD (c .before .before .before .before .before .args .cells .now) i 0 ∷ [])) (c .before .cell-index .ensures) ∙ sym (not-refused _ _ _ e)
 

@@ -7,7 +7,7 @@ use borrow.Author.Needs.{needs}
 use Rattle.config.specs.Answers.{accepted, refusedWith, is-refused, not-refused}
 use Rattle.chunk.specs.Replies.{yes}
 use Rattle.chunk.specs.Tests.{chunk-passed}
-use Rattle.chunk_look.specs.Calls.{isSolidDoes}
+use Rattle.chunk_look.specs.Calls.{chunkIsSolidDoes}
 use Rattle.chunk_look.proofs.is_solid.Statement.{statement}
 use Rattle.chunk_look.proofs.is_solid.Tie as tie
 
@@ -15,14 +15,14 @@ refuse-chunk-requires : tie.Need-refuse-chunk-requires
 refuse-chunk-requires c κs = search needs
 
 returns : tie.Need-returns
-unfolding isSolidDoes
+unfolding chunkIsSolidDoes
 returns c = let e = c .before .refuse-chunk .ensures in ap refusedWith e ∙ sym (is-refused _ _ _ (λ q. c .if1 .taken (e ∙ q)))
 
 count-non-air-requires : tie.Need-count-non-air-requires
 count-non-air-requires c κs = search needs
 
 returns-2 : tie.Need-returns-2
-unfolding isSolidDoes
+unfolding chunkIsSolidDoes
 returns-2 c = let e = sym (c .before .before .refuse-chunk .ensures) ∙ c .before .if1 .left in
     ap₂ (λ (i : ℕ). λ (v : ℕ). accepted (yes (eqb i v) ∷ [])) (c .count-non-air .ensures) (chunk-passed _ _ e .all) ∙ sym (not-refused _ _ _ e)
 

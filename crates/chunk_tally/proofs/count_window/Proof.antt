@@ -4,7 +4,7 @@ use Prim.Native.Nat.{_-_, _≤_, _<_}
 use native.Mathlib.Omega.{arith}
 use lib.ListN.{length, getD, take}
 use lib.Seq.{take-all, length-take-le}
-use Rattle.chunk_tally.specs.Ids.{idTable, bumpAt, bump-table, table-none, table-length, table-room, Room}
+use Rattle.chunk_tally.specs.Ids.{idTable, bumpAt, bump-table, table-none, table-length, table-room, TableRoom}
 use Rattle.chunk_tally.proofs.count_window.Statement.{statement}
 use Rattle.chunk_tally.proofs.count_window.Tie as tie
 
@@ -29,7 +29,7 @@ shared-slice-read-bump c = c .before .before .loop-test .taken
 bump-requires : tie.Need-bump-requires Inv-loop μ-loop
 bump-requires c κs =
     let l = c .before .before .before .loop in
-    subst Room (sym (l .inv .1)) (table-room (c .before .before .before .before .before .before .before .before .before .before .args .base) (take (l .i) (c .before .before .before .before .before .before .before .before .before .before .args .cells .now)) (let h = c .before .before .before .before .before .before .before .before .before .before .pre .1 in let m = length-take-le (l .i) (c .before .before .before .before .before .before .before .before .before .before .args .cells .now) (l .inv .0) in let t = l .inv .0 in omega arith))
+    subst TableRoom (sym (l .inv .1)) (table-room (c .before .before .before .before .before .before .before .before .before .before .args .base) (take (l .i) (c .before .before .before .before .before .before .before .before .before .before .args .cells .now)) (let h = c .before .before .before .before .before .before .before .before .before .before .pre .1 in let m = length-take-le (l .i) (c .before .before .before .before .before .before .before .before .before .before .args .cells .now) (l .inv .0) in let t = l .inv .0 in omega arith))
 
 add-i : tie.Need-add-i Inv-loop μ-loop
 add-i c =

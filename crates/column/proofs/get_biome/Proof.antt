@@ -4,7 +4,7 @@ use lib.Ieee.{Float}
 use mir.Syntax.{w32}
 use mir.ValLaws.{toZ-ofZ}
 use Rattle.basics.specs.Paths.{ap₄}
-use Rattle.column.specs.Column.{climateOf, reliefOf, columnOf, columnAt, surfaceOf, biomeAndHeight}
+use Rattle.column.specs.Column.{climateOf, reliefOf, columnFrom, columnAt, surfaceOf, biomeAndHeight}
 use Rattle.column.specs.Floats.{_+f_, real}
 use borrow.Author.Needs.{needs}
 use Rattle.column.proofs.get_biome.Statement.{statement}
@@ -29,7 +29,7 @@ surface-of-requires : tie.Need-surface-of-requires
 surface-of-requires c κs = search needs
 
 returns : tie.Need-returns
-unfolding biomeAndHeight columnAt columnOf surfaceOf
+unfolding biomeAndHeight columnAt columnFrom surfaceOf
 returns c =
     let s = c .before .before .before .before .before .before in
     let a = s .args in

@@ -11,7 +11,7 @@ use Rattle.column.specs.Floats.{_+f_, real}
 use Rattle.column.specs.Column.{climateOf, reliefOf}
 use Rattle.column_read.specs.Laws.{climate-in, relief-in}
 use Rattle.ground_cell.specs.World.{Near}
-use Rattle.column_tops_row.specs.Tops.{zAt, Laid}
+use Rattle.column_tops_row.specs.Tops.{zAt, RowTabled}
 use borrow.Author.Needs.{needs}
 use Rattle.column_tops.proofs.note_row.Statement.{statement}
 use Rattle.column_tops.proofs.note_row.Tie as tie
@@ -62,7 +62,7 @@ ridge-rows-requires c κs =
     let o = s .args .o in
     let p : Near o = s .pre .1 in
     let pm : o .size ≤ 64 = p .most in
-    let t : Laid (s .args .w) o (s .args .xs .now) (s .args .floors .now) (s .args .eases .now) = s .pre .3 in
+    let t : RowTabled (s .args .w) o (s .args .xs .now) (s .args .floors .now) (s .args .eases .now) = s .pre .3 in
     (pm, t .long, t .longer, pm, pm)
 
 slice-aggregate-lowland-rows : tie.Need-slice-aggregate-lowland-rows
@@ -82,7 +82,7 @@ lowland-rows-requires c κs =
     let o = s .args .o in
     let p : Near o = s .pre .1 in
     let pm : o .size ≤ 64 = p .most in
-    let t : Laid (s .args .w) o (s .args .xs .now) (s .args .floors .now) (s .args .eases .now) = s .pre .3 in
+    let t : RowTabled (s .args .w) o (s .args .xs .now) (s .args .floors .now) (s .args .eases .now) = s .pre .3 in
     (pm, t .long, t .longer, pm, pm, pm)
 
 slice-aggregate-put-row : tie.Need-slice-aggregate-put-row
@@ -128,7 +128,7 @@ put-row-requires c κs =
     let o = s .args .o in
     let w = s .args .w in
     let p : Near o = s .pre .1 in
-    let t : Laid w o (s .args .xs .now) (s .args .floors .now) (s .args .eases .now) = s .pre .3 in
+    let t : RowTabled w o (s .args .xs .now) (s .args .floors .now) (s .args .eases .now) = s .pre .3 in
     let xr = t .places in
     let wz = read w32 (c38 .along .ok) (c38 .along .ensures ∙ ap (λ (u : ℤ). u +ℤ pos (s .args .z)) (back (o .oz) (p .z))) in
     let vz = ap (λ (u : Float). u +f w .«seed_offset») (c37 .of-i32 .ensures ∙ ap real wz) in

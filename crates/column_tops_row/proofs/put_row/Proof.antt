@@ -14,7 +14,7 @@ use Rattle.grid.specs.Grid.{square-most, steps-none, steps-more}
 use Rattle.ground_cell.specs.World.{topWith}
 use Rattle.ground_cell.specs.Base.{columnHeight, columnBiome}
 use Rattle.ground_cell.specs.declared.world.Top.{Top}
-use Rattle.column_tops_row.specs.Tops.{topOf, noteAt}
+use Rattle.column_tops_row.specs.Tops.{surfaceTop, noteAt}
 use Rattle.column_tops_row.specs.Laws.{row-top, row-length}
 use Rattle.column_tops_row.proofs.put_row.Statement.{statement}
 use Rattle.column_tops_row.proofs.put_row.Tie as tie
@@ -161,7 +161,7 @@ loop-again c =
     let r = s .pre .3 in
     let e : c .top-of .result ≡ topWith (columnHeight w o (z * o .size + l .x)) (columnBiome w o (z * o .size + l .x)) =
     c .top-of .ensures
-    ∙ ap₂ (λ (u : Column) (v : Relief). topOf (surfaceOf u v (real (w .«sea_level»)) (w .«max_height»)))
+    ∙ ap₂ (λ (u : Column) (v : Relief). surfaceTop (surfaceOf u v (real (w .«sea_level»)) (w .«max_height»)))
     (c .before .before .climate-in .ensures ∙ r .climates (l .x) t) (c .before .relief-in .ensures ∙ r .reliefs (l .x) t)
     ∙ row-top w o z (l .x) t in (
       omega arith,

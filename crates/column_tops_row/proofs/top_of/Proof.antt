@@ -14,7 +14,7 @@ use Rattle.column.specs.Column.{surfaceOf}
 use Rattle.column.specs.declared.Surface.{Surface}
 use Rattle.ground_cell.specs.World.{biomeNumber, topWith}
 use Rattle.basics.specs.Words.{back}
-use Rattle.column_tops_row.specs.Tops.{topOf}
+use Rattle.column_tops_row.specs.Tops.{surfaceTop}
 use Rattle.column_tops_row.specs.Laws.{surface-range}
 use borrow.Author.Needs.{needs}
 use Rattle.column_tops_row.proofs.top_of.Statement.{statement}
@@ -47,7 +47,7 @@ cast-t9 c =
     let most = r .most in subst (λ (u : ℤ). T (nonNeg u) × Fits w16 (natAbs u)) (sym (h ∙ r .is)) (tt, record { fits = omega arith })
 
 returns : tie.Need-returns
-unfolding topOf
+unfolding surfaceTop
 returns c =
     let s = c .before .before .before .before .before .before in
     let a = s .args in

@@ -6,7 +6,7 @@ use native.Mathlib.Omega.{arith}
 use mathlib.Core.List.{List}
 use lib.ListN.{length, getD}
 use Rattle.grid.specs.Grid.{square-most, fill-at}
-use Rattle.ground_cell.specs.Base.{columnHeight, columnBiome, Noted}
+use Rattle.ground_cell.specs.Base.{columnHeight, columnBiome, TopsNoted}
 use Rattle.ground_chunk.proofs.lay.Statement.{statement}
 use Rattle.ground_chunk.proofs.lay.Tie as tie
 
@@ -37,7 +37,7 @@ lay-passes-requires c κs =
     let sq = square-most (o .size) (s .pre .1 .most) in
     let lh : length (t .last .1 .1 .0) ≡ 4096 = t .kept .1 .1 .0 in
     let lb : length (t .last .1 .1 .1 .0) ≡ 4096 = t .kept .1 .1 .1 .0 in
-    let held : Noted w o (t .last .1 .1 .0) (t .last .1 .1 .1 .0) = record {
+    let held : TopsNoted w o (t .last .1 .1 .0) (t .last .1 .1 .1 .0) = record {
       heights = λ (i : ℕ) h. ap (λ (d : List ℕ). getD d i 0) (t .ensures .0) ∙ fill-at _ (o .size * o .size) i (columnHeight w o) h;
       biomes = λ (i : ℕ) h. ap (λ (d : List ℕ). getD d i 0) (t .ensures .1) ∙ fill-at _ (o .size * o .size) i (columnBiome w o) h;
       long = omega arith;

@@ -14,14 +14,14 @@ use Rattle.basics.specs.Words.{read}
 use Rattle.noise.specs.Hash.{hash3₃₂}
 use Rattle.noise.specs.Noise.{lerp₃₂, next}
 use Rattle.noise_tables.specs.Row.{at}
-use Rattle.noise_layers.specs.Layers.{edge₃₂, edgeAt, Hashes, Laid, laid-none, laid-more}
+use Rattle.noise_layers.specs.Layers.{edge₃₂, edgeAt, Hashes, RowLaid, laid-none, laid-more}
 use Rattle.noise_layers.proofs.Rows.{laid-same}
 use Rattle.noise_layers.proofs.edge_row.Statement.{statement}
 use Rattle.noise_layers.proofs.edge_row.Tie as tie
 
 abbrev Inv-loop : tie.InvT-loop
 Inv-loop iy iz base to n floors eases edges₀ at₀ a₀ b₀ i₀ edges at a b i =
-    (i ≤ n) × Hashes (toZ w32 iy) (toZ w32 iz) at a b × Laid to i (edgeAt (toZ w32 iy) (toZ w32 iz) base floors eases) edges₀ edges
+    (i ≤ n) × Hashes (toZ w32 iy) (toZ w32 iz) at a b × RowLaid to i (edgeAt (toZ w32 iy) (toZ w32 iz) base floors eases) edges₀ edges
 
 abbrev μ-loop : tie.MeasureT-loop
 μ-loop iy iz base to n floors eases edges₀ at₀ a₀ b₀ i₀ edges at a b i = n - i

@@ -1,6 +1,6 @@
 -- `openmap_rows::put_row` meets its contract. The loop's invariant: the ids below x are written. Assumes nothing.
 use Rattle.openmap_lines.specs.Appended.{same-length as kept}
-use Rattle.openmap_lines.specs.Parted.{parted}
+use Rattle.openmap_lines.specs.Separated.{separated}
 use Rattle.openmap_rows.specs.Rows.{idText, row-is, id-is, row-space}
 use Rattle.openmap_lines.specs.Text.{each}
 use Rattle.text.specs.Decimal.{decimal}
@@ -35,14 +35,14 @@ loop-holds c =
 see-requires : tie.Need-see-requires Inv-loop μ-loop
 see-requires c κs = c .before .before .before .before .before .pre .cube
 
-cast-put-parted : tie.Need-cast-put-parted Inv-loop μ-loop
-cast-put-parted c = omega arith
+cast-put-separated : tie.Need-cast-put-separated Inv-loop μ-loop
+cast-put-separated c = omega arith
 
-put-parted-requires : tie.Need-put-parted-requires Inv-loop μ-loop
-put-parted-requires c κs =
+put-separated-requires : tie.Need-put-separated-requires Inv-loop μ-loop
+put-separated-requires c κs =
     let s = c .before .before .before .before .before .before in
     let l = c .before .before .before .loop in
-    let e : length (parted (l .x) (decimal (c .see .result))) ≡ length (idText (s .args .size) (s .args .cells .now) (s .args .z) (s .args .y) (l .x)) =
+    let e : length (separated (l .x) (decimal (c .see .result))) ≡ length (idText (s .args .size) (s .args .cells .now) (s .args .z) (s .args .y) (l .x)) =
     ap length (id-is (s .args .size) (s .args .cells .now) (s .args .z) (s .args .y) (l .x) (c .see .result) (c .see .ensures)) in
     let h =
     loops.fits-next (s .args .out .now) (s .args .at) (s .args .size) (idText (s .args .size) (s .args .cells .now) (s .args .z) (s .args .y)) (space s) (l .x) (l .p) (l .out) (omega arith) (l .inv .1) in
@@ -60,8 +60,8 @@ loop-again c =
     let l = c .before .before .before .before .before .before .loop in
     let r = c .before .before .before .see in (
       omega arith,
-      loops.goes-on (s .args .out .now) (s .args .at) (s .args .size) (idText (s .args .size) (s .args .cells .now) (s .args .z) (s .args .y)) (space s) (l .x) (l .p) (c .before .before .put-parted .result) (l .out) (c .before .before .put-parted .last .0) (omega arith) (l .inv .1)
-          (as-text (id-is (s .args .size) (s .args .cells .now) (s .args .z) (s .args .y) (l .x) (r .result) (r .ensures)) (c .before .before .put-parted .ensures)),
+      loops.goes-on (s .args .out .now) (s .args .at) (s .args .size) (idText (s .args .size) (s .args .cells .now) (s .args .z) (s .args .y)) (space s) (l .x) (l .p) (c .before .before .put-separated .result) (l .out) (c .before .before .put-separated .last .0) (omega arith) (l .inv .1)
+          (as-text (id-is (s .args .size) (s .args .cells .now) (s .args .z) (s .args .y) (l .x) (r .result) (r .ensures)) (c .before .before .put-separated .ensures)),
     )
 
 put-byte-requires : tie.Need-put-byte-requires Inv-loop μ-loop
@@ -95,8 +95,8 @@ put-row-spec =
     μ-loop
     loop-holds
     see-requires
-    cast-put-parted
-    put-parted-requires
+    cast-put-separated
+    put-separated-requires
     add-x
     loop-less
     loop-again

@@ -1,9 +1,9 @@
--- `host::pl_session_fill_column` meets its contract: the walk that set and column share (`Thin.antt`), at `session_edit::fill_column` and `columnDoes`.
+-- `host::pl_session_fill_column` meets its contract: the walk that set and column share (`Thin.antt`), at `session_edit::fill_column` and `sessionColumnDoes`.
 -- Assumes nothing.
 use contract.Running.{givenOf, tables, tablesOf}
 use denote.Triple.Spec.{tripleOf}
 use denote.Triple.Table.{entered, cited}
-use Rattle.session_calls.specs.Calls.{columnDoes}
+use Rattle.session_calls.specs.Calls.{sessionColumnDoes}
 use Rattle.host.proofs.Thin.{Callee, thin-meets}
 use Rattle.session_edit.proofs.fill_column.Symbol as callee-def
 use Rattle.session_edit.proofs.fill_column.Symbol.{name as #callee}
@@ -18,5 +18,5 @@ unfolding code.routine tablesOf
 pl-session-fill-column-spec 𝓤 H 𝓜 𝓖 𝓡 =
     entered 𝓤 H (tripleOf 𝓤 H (𝓖 .A) f.signature (f.spec 𝓤 H (𝓖 .A) (𝓜 .mem) (𝓡 .run)))
     (tables 𝓤 H 𝓜 𝓡 code.env .C) (tables 𝓤 H 𝓜 𝓡 code.env .Λ) #f code.function (code.unfolded 𝓤 H 𝓜 𝓡)
-    (thin-meets columnDoes #callee 𝓤 H (𝓖 .A) (givenOf 𝓤 H 𝓜 𝓖) (tablesOf 𝓤 H 𝓜 (tables 𝓤 H 𝓜 𝓡 code.env))
-    (cited 𝓤 H (Callee columnDoes 𝓤 H (𝓖 .A)) 𝓜 𝓡 code.env #callee callee-def.routine code.calls-session-edit·fill-column (callee-thm.met 𝓤 H 𝓜 𝓖 𝓡)))
+    (thin-meets sessionColumnDoes #callee 𝓤 H (𝓖 .A) (givenOf 𝓤 H 𝓜 𝓖) (tablesOf 𝓤 H 𝓜 (tables 𝓤 H 𝓜 𝓡 code.env))
+    (cited 𝓤 H (Callee sessionColumnDoes 𝓤 H (𝓖 .A)) 𝓜 𝓡 code.env #callee callee-def.routine code.calls-session-edit·fill-column (callee-thm.met 𝓤 H 𝓜 𝓖 𝓡)))

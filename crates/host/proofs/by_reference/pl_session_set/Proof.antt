@@ -1,9 +1,9 @@
--- `host::pl_session_set` meets its contract: the walk that set and column share (`Thin.antt`), at `session_edit::set` and `setDoes`.
+-- `host::pl_session_set` meets its contract: the walk that set and column share (`Thin.antt`), at `session_edit::set` and `sessionSetDoes`.
 -- Assumes nothing.
 use contract.Running.{givenOf, tables, tablesOf}
 use denote.Triple.Spec.{tripleOf}
 use denote.Triple.Table.{entered, cited}
-use Rattle.session_calls.specs.Calls.{setDoes}
+use Rattle.session_calls.specs.Calls.{sessionSetDoes}
 use Rattle.host.proofs.Thin.{Callee, thin-meets}
 use Rattle.session_edit.proofs.set.Symbol as callee-def
 use Rattle.session_edit.proofs.set.Symbol.{name as #callee}
@@ -18,5 +18,5 @@ unfolding code.routine tablesOf
 pl-session-set-spec 𝓤 H 𝓜 𝓖 𝓡 =
     entered 𝓤 H (tripleOf 𝓤 H (𝓖 .A) f.signature (f.spec 𝓤 H (𝓖 .A) (𝓜 .mem) (𝓡 .run)))
     (tables 𝓤 H 𝓜 𝓡 code.env .C) (tables 𝓤 H 𝓜 𝓡 code.env .Λ) #f code.function (code.unfolded 𝓤 H 𝓜 𝓡)
-    (thin-meets setDoes #callee 𝓤 H (𝓖 .A) (givenOf 𝓤 H 𝓜 𝓖) (tablesOf 𝓤 H 𝓜 (tables 𝓤 H 𝓜 𝓡 code.env))
-    (cited 𝓤 H (Callee setDoes 𝓤 H (𝓖 .A)) 𝓜 𝓡 code.env #callee callee-def.routine code.calls-session-edit·set (callee-thm.met 𝓤 H 𝓜 𝓖 𝓡)))
+    (thin-meets sessionSetDoes #callee 𝓤 H (𝓖 .A) (givenOf 𝓤 H 𝓜 𝓖) (tablesOf 𝓤 H 𝓜 (tables 𝓤 H 𝓜 𝓡 code.env))
+    (cited 𝓤 H (Callee sessionSetDoes 𝓤 H (𝓖 .A)) 𝓜 𝓡 code.env #callee callee-def.routine code.calls-session-edit·set (callee-thm.met 𝓤 H 𝓜 𝓖 𝓡)))

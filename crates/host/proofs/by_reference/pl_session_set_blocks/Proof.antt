@@ -44,7 +44,7 @@ use denote.Exit.{yes}
 use denote.Signature.{plain}
 use Rattle.session_calls.specs.declared.Session.{Session}
 use Rattle.session_calls.specs.declared.Edited.{Edited}
-use Rattle.session_calls.specs.Calls.{outcome, batchDoes}
+use Rattle.session_calls.specs.Calls.{outcome, sessionBatchDoes}
 use Rattle.session_calls.proofs.Session as S
 use Rattle.session_calls.proofs.Session.Laws as S′
 use Rattle.session_calls.proofs.Edited as B
@@ -70,7 +70,7 @@ Callee 𝓤 H A mem run = tripleOf 𝓤 H A callee.signature (callee.spec 𝓤 H
 
 -- what the callee ensures of what it returns and of the last cells and the last journal
 abbrev Ensures : Session → List ℕ → List ℕ → List ℕ → Edited → List ℕ → List ℕ → Type 0
-Ensures h cs js x₃ r cs′ js′ = outcome (r .session) (r .reply) cs′ js′ ≡ batchDoes h cs js x₃
+Ensures h cs js x₃ r cs′ js′ = outcome (r .session) (r .reply) cs′ js′ ≡ sessionBatchDoes h cs js x₃
 
 module _ {M : Type 1} (𝓤 : URA M) (H : Heap 𝓤) (A : Atoms 𝓤) (W : Given 𝓤 H A) (at-mem : Memory → SProp 𝓤) (run : Routine → Fun 𝓤) (κ κ₁ κ₂ κ₃ : Lft) (q q₁ q₂ q₃ : Share) (b o : ℕ) (γ : GName) (h : Session) (x₁ x₂ : RefT (List ℕ)) (x₃ : RefT (List ℕ)) where
   abbrev Arg : Type 0

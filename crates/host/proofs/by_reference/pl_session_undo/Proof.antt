@@ -43,7 +43,7 @@ use denote.Triple.Walked.{says, Stays, stay-ref, gave-slice, walkOf, goes-ref, g
 use denote.Signature.{plain}
 use Rattle.session_calls.specs.declared.Session.{Session}
 use Rattle.session_calls.specs.declared.Edited.{Edited}
-use Rattle.session_calls.specs.Calls.{outcome, undoDoes}
+use Rattle.session_calls.specs.Calls.{outcome, sessionUndoDoes}
 use Rattle.session_calls.proofs.Session as S
 use Rattle.session_calls.proofs.Session.Laws as S′
 use Rattle.session_calls.proofs.Edited as B
@@ -68,7 +68,7 @@ Callee 𝓤 H A mem run = tripleOf 𝓤 H A callee.signature (callee.spec 𝓤 H
 
 -- what the callee ensures of what it returns and of the last cells and the last journal
 abbrev Ensures : Session → List ℕ → List ℕ → Edited → List ℕ → List ℕ → Type 0
-Ensures h cs js r cs′ js′ = outcome (r .session) (r .reply) cs′ js′ ≡ undoDoes h cs js
+Ensures h cs js r cs′ js′ = outcome (r .session) (r .reply) cs′ js′ ≡ sessionUndoDoes h cs js
 
 module _ {M : Type 1} (𝓤 : URA M) (H : Heap 𝓤) (A : Atoms 𝓤) (W : Given 𝓤 H A) (at-mem : Memory → SProp 𝓤) (run : Routine → Fun 𝓤) (κ κ₁ κ₂ : Lft) (q q₁ q₂ : Share) (b o : ℕ) (γ : GName) (h : Session) (x₁ x₂ : RefT (List ℕ)) where
   abbrev Arg : Type 0
