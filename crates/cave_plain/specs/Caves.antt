@@ -15,7 +15,8 @@ spaghettiCave x y z =
 -- cavern
 unfoldable pub largeCavern : Float → Float → Float → Float → Bool
 largeCavern x y z h =
-    lt (nearest 7 10 -f (nat 1 -f clamp₃₂ (y /f h) (nat 0) (nat 1)) *f nearest 15 100) (fbm3d₃₂ (x *f nearest 15 1000) (y *f nearest 25 1000) (z *f nearest 15 1000) 2)
+    lt (nearest 7 10 -f (nat 1 -f clamp₃₂ (y /f h) (nat 0) (nat 1)) *f nearest 15 100)
+    (fbm3d₃₂ (x *f nearest 15 1000) (y *f nearest 25 1000) (z *f nearest 15 1000) 2)
 
 -- ravine: what of it is the same for a whole column; n is the larger noise there
 unfoldable pub ravineWith : Float → Float → Float → Bool

@@ -30,7 +30,12 @@ fn cut_row(f: Frame, z: f32, vals: &[f32], cuts: &mut [bool])
 
 // The tables are those of `cave_tables`.
 pub fn note_cuts(f: Frame, z: usize, floors: &[u32], eases: &[f32], cuts: &mut [bool])
-    requires { ⌜ Near f × (z < f .size) × Noted (f .size) 27 (caveCoord f) (now floors) (now eases) × (length (now floors) ≡ 1728) × (length (now eases) ≡ 1728) × (f .size ≤ length (now cuts)) ⌝ }
+    requires { ⌜ Near f
+        × (z < f .size)
+        × Noted (f .size) 27 (caveCoord f) (now floors) (now eases)
+        × (length (now floors) ≡ 1728)
+        × (length (now eases) ≡ 1728)
+        × (f .size ≤ length (now cuts)) ⌝ }
     ensures { λ _. ⌜ Cuts f z (now (cuts .exit)) ⌝ }
 {
     let n = f.size;

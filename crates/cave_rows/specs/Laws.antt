@@ -44,7 +44,8 @@ module _ (f : Frame) (y z : ℕ) (floors : List ℕ) (eases edges : List Float) 
   one-noise : (i : ℕ) → i < f .size → (o : ℕ) → o < 8
       → oneOf o y z eases edges i ≡ noise3d₃₂ (caveCoord f o i) (caveCoord f (o + 11) y) (caveCoord f (o + 19) z)
   one-noise i k o h =
-      octave-noise floors eases edges (caveCoord f o i) (caveCoord f (o + 11) y) (caveCoord f (o + 19) z) o (f .size) (levelAt o y) (depthAt o z) i k (l .each o h)
+      octave-noise floors eases edges (caveCoord f o i) (caveCoord f (o + 11) y) (caveCoord f (o + 19) z) o (f .size) (levelAt o y) (depthAt o z) i k
+      (l .each o h)
       (n .tells o i (omega arith) k) (level-told o h) (depth-told o h)
 
   abbrev wx : ℕ → Float
@@ -57,7 +58,8 @@ module _ (f : Frame) (y z : ℕ) (floors : List ℕ) (eases edges : List Float) 
   wz = real (f .oz +ℤ pos z)
 
   field-a : (i : ℕ) → i < f .size
-      → sum3Of 0 y z eases edges i /f nearest 7 4 ≡ fbm3d₃₂ (wx i *f nearest 4 100 +f nat 100) (wy *f nearest 6 100 +f nat 100) (wz *f nearest 4 100 +f nat 100) 3
+      → sum3Of 0 y z eases edges i /f nearest 7 4
+      ≡ fbm3d₃₂ (wx i *f nearest 4 100 +f nat 100) (wy *f nearest 6 100 +f nat 100) (wz *f nearest 4 100 +f nat 100) 3
   unfolding sum3Of sum2Of fbm3d₃₂ along3 caveCoord xOf yOf zOf scaledBy
   field-a i k =
       ap₃ (λ (a b c : Float). (nat 0 +f a *f nat 1 +f b *f nearest 1 2 +f c *f nearest 1 4) /f nearest 7 4)
@@ -65,7 +67,8 @@ module _ (f : Frame) (y z : ℕ) (floors : List ℕ) (eases edges : List Float) 
       ∙ three (along3 (wx i *f nearest 4 100 +f nat 100) (wy *f nearest 6 100 +f nat 100) (wz *f nearest 4 100 +f nat 100))
 
   field-b : (i : ℕ) → i < f .size
-      → sum3Of 3 y z eases edges i /f nearest 7 4 ≡ fbm3d₃₂ (wx i *f nearest 4 100 -f nat 200) (wy *f nearest 6 100 -f nat 200) (wz *f nearest 4 100 +f nat 300) 3
+      → sum3Of 3 y z eases edges i /f nearest 7 4
+      ≡ fbm3d₃₂ (wx i *f nearest 4 100 -f nat 200) (wy *f nearest 6 100 -f nat 200) (wz *f nearest 4 100 +f nat 300) 3
   unfolding sum3Of sum2Of fbm3d₃₂ along3 caveCoord xOf yOf zOf scaledBy
   field-b i k =
       ap₃ (λ (a b c : Float). (nat 0 +f a *f nat 1 +f b *f nearest 1 2 +f c *f nearest 1 4) /f nearest 7 4)

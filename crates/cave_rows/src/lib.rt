@@ -168,8 +168,16 @@ fn judge(
     c: &[f32],
     flags: &mut [bool],
 )
-    requires { ⌜ (n ≤ 64) × (k ≤ 4096) × (k + n ≤ length (now heights)) × (n ≤ length (now cuts)) × (n ≤ length (now a)) × (n ≤ length (now b)) × (n ≤ length (now c)) × (n ≤ length (now flags)) ⌝ }
-    ensures { λ _. ⌜ Flags n (judgedAt y k (now (heights .entry)) (now (cuts .entry)) (now (a .entry)) (now (b .entry)) (now (c .entry))) (now (flags .exit)) ⌝ }
+    requires { ⌜ (n ≤ 64)
+        × (k ≤ 4096)
+        × (k + n ≤ length (now heights))
+        × (n ≤ length (now cuts))
+        × (n ≤ length (now a))
+        × (n ≤ length (now b))
+        × (n ≤ length (now c))
+        × (n ≤ length (now flags)) ⌝ }
+    ensures { λ _. ⌜ Flags n
+        (judgedAt y k (now (heights .entry)) (now (cuts .entry)) (now (a .entry)) (now (b .entry)) (now (c .entry))) (now (flags .exit)) ⌝ }
 {
     let mut i = 0;
     while i < n {
@@ -192,8 +200,18 @@ pub fn hollow_row(
     edges: &mut [f32],
     flags: &mut [bool],
 )
-    requires { ⌜ Near f × (from < f .size) × (y < f .size) × (z < f .size) × (f .size * f .size ≤ length (now heights)) × Cuts f z (now cuts) × Noted (f .size) 27 (caveCoord f) (now floors) (now eases) × CaveRoom y z (f .size) (now floors) (now eases) (now edges) × AllLayers from z (f .size) (now floors) (now eases) (now edges) × (f .size ≤ length (now flags)) ⌝ }
-    ensures { λ _. ⌜ AllLayers y z (f .size) (now (floors .entry)) (now (eases .entry)) (now (edges .exit)) × Hollow f y z (now (heights .entry)) (now (flags .exit)) ⌝ }
+    requires { ⌜ Near f
+        × (from < f .size)
+        × (y < f .size)
+        × (z < f .size)
+        × (f .size * f .size ≤ length (now heights))
+        × Cuts f z (now cuts)
+        × Noted (f .size) 27 (caveCoord f) (now floors) (now eases)
+        × CaveRoom y z (f .size) (now floors) (now eases) (now edges)
+        × AllLayers from z (f .size) (now floors) (now eases) (now edges)
+        × (f .size ≤ length (now flags)) ⌝ }
+    ensures { λ _. ⌜ AllLayers y z (f .size) (now (floors .entry)) (now (eases .entry)) (now (edges .exit))
+        × Hollow f y z (now (heights .entry)) (now (flags .exit)) ⌝ }
 {
     let n = f.size;
     raise_layers(from, y, z, n, floors, eases, edges);

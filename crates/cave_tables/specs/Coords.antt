@@ -18,11 +18,13 @@ xOf o x =
 
 unfoldable pub yOf : ℕ → Float → Float
 yOf o y =
-    cond (ltb o 3) (scaledBy o (y *f nearest 6 100 +f nat 100)) (cond (ltb o 6) (scaledBy (o - 3) (y *f nearest 6 100 -f nat 200)) (scaledBy (o - 6) (y *f nearest 25 1000)))
+    cond (ltb o 3) (scaledBy o (y *f nearest 6 100 +f nat 100))
+    (cond (ltb o 6) (scaledBy (o - 3) (y *f nearest 6 100 -f nat 200)) (scaledBy (o - 6) (y *f nearest 25 1000)))
 
 unfoldable pub zOf : ℕ → Float → Float
 zOf o z =
-    cond (ltb o 3) (scaledBy o (z *f nearest 4 100 +f nat 100)) (cond (ltb o 6) (scaledBy (o - 3) (z *f nearest 4 100 +f nat 300)) (scaledBy (o - 6) (z *f nearest 15 1000)))
+    cond (ltb o 3) (scaledBy o (z *f nearest 4 100 +f nat 100))
+    (cond (ltb o 6) (scaledBy (o - 3) (z *f nearest 4 100 +f nat 300)) (scaledBy (o - 6) (z *f nearest 15 1000)))
 
 -- octave o of the tables at place i: along x, from 11 on along y, from 19 on along z
 unfoldable pub caveCoord : Frame → ℕ → ℕ → Float

@@ -40,7 +40,8 @@ laid-cube size ns k c h = record { most = h .most; all = laid-length size ns k c
 -- ---- all groups
 
 -- what is laid and what is left to lay make the whole
-rest : (size : ℕ) (ns : List ℕ) (k : ℕ) (c : List ℕ) → 4 * k ≤ length ns → batchCells size (batchGroups (drop (4 * k) ns)) (laid size ns k c) ≡ batchCells size (batchGroups ns) c
+rest : (size : ℕ) (ns : List ℕ) (k : ℕ) (c : List ℕ) → 4 * k ≤ length ns
+    → batchCells size (batchGroups (drop (4 * k) ns)) (laid size ns k c) ≡ batchCells size (batchGroups ns) c
 unfolding laid steps batchCells
 rest size ns zero c h = refl
 rest size ns (suc k) c h =

@@ -112,7 +112,8 @@ fn group_change(cells: &[u16], size: usize, edits: &[u32], k: usize) -> Change
 // The change that the whole batch makes, found before a cell is written.
 pub fn batch_change(cells: &[u16], size: usize, edits: &[u32]) -> Change
     requires { ⌜ Cube size (now cells) ⌝ }
-    ensures { λ r. ⌜ Net (now (cells .entry)) (batchCells size (insideGroups size (batchGroups (now (edits .entry)))) (now (cells .entry))) (length (now (edits .entry)) / 4) r ⌝ }
+    ensures { λ r. ⌜ Net (now (cells .entry))
+        (batchCells size (insideGroups size (batchGroups (now (edits .entry)))) (now (cells .entry))) (length (now (edits .entry)) / 4) r ⌝ }
 {
     let groups = edits.len() / 4;
     let mut before: usize = 0;

@@ -98,10 +98,12 @@ part-put start size g c l =
     by-bool (groupInside size g)
     (λ e. let i : Inside size (g .x) (g .y) (g .z) = group-inside size g e in
     let m = index-lt size (g .x) (g .y) (g .z) (i .x-in) (i .y-in) (i .z-in) in
-    rw e (part-index start (cellIndex size (g .x) (g .y) (g .z)) (g .id) c (omega arith) ∙ sym (ap (partOf start) (put-inside size (g .x) (g .y) (g .z) (g .id) c i))))
+    rw e (part-index start (cellIndex size (g .x) (g .y) (g .z)) (g .id) c (omega arith)
+    ∙ sym (ap (partOf start) (put-inside size (g .x) (g .y) (g .z) (g .id) c i))))
     (λ e. rw e (sym (ap (partOf start) (put-outside size g c e))))
 
-pub part-laid : (start size : ℕ) (ns : List ℕ) (k : ℕ) (c : List ℕ) → length c ≡ size * size * size → partLaid start size ns k (partOf start c) ≡ partOf start (laid size ns k c)
+pub part-laid : (start size : ℕ) (ns : List ℕ) (k : ℕ) (c : List ℕ) → length c ≡ size * size * size
+    → partLaid start size ns k (partOf start c) ≡ partOf start (laid size ns k c)
 unfolding partLaid laid steps
 part-laid start size ns zero c l = refl
 part-laid start size ns (suc k) c l =
@@ -112,7 +114,8 @@ pub part-none : (start size : ℕ) (ns p : List ℕ) → p ≡ partLaid start si
 unfolding partLaid steps
 part-none start size ns p = refl
 
-pub part-more : (start size : ℕ) (ns : List ℕ) (k : ℕ) (p : List ℕ) → putPart start size (groupOf ns (4 * k)) (partLaid start size ns k p) ≡ partLaid start size ns (k + 1) p
+pub part-more : (start size : ℕ) (ns : List ℕ) (k : ℕ) (p : List ℕ)
+    → putPart start size (groupOf ns (4 * k)) (partLaid start size ns k p) ≡ partLaid start size ns (k + 1) p
 unfolding partLaid steps
 part-more start size ns k p = ap (λ (j : ℕ). partLaid start size ns j p) (sym (add-one k))
 

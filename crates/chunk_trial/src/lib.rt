@@ -91,7 +91,8 @@ fn trial_count(cells: &[u16], size: usize, edits: &[u32], part: &mut [u16]) -> u
 // The change of a long batch, by a dry run.
 fn trial_change(cells: &[u16], size: usize, edits: &[u32]) -> Change
     requires { ⌜ Cube size (now cells) ⌝ }
-    ensures { λ r. ⌜ Net (now (cells .entry)) (batchCells size (insideGroups size (batchGroups (now (edits .entry)))) (now (cells .entry))) (length (now (edits .entry)) / 4 + 262144) r ⌝ }
+    ensures { λ r. ⌜ Net (now (cells .entry))
+        (batchCells size (insideGroups size (batchGroups (now (edits .entry)))) (now (cells .entry))) (length (now (edits .entry)) / 4 + 262144) r ⌝ }
 {
     let mut part = [0u16; PART];
     let after = trial_count(cells, size, edits, &mut part);
@@ -104,7 +105,8 @@ fn trial_change(cells: &[u16], size: usize, edits: &[u32]) -> Change
 // The change of a batch of any length. Group by group the time goes by the square of their number, so a long batch is tried on a copy.
 pub fn any_change(cells: &[u16], size: usize, edits: &[u32]) -> Change
     requires { ⌜ Cube size (now cells) ⌝ }
-    ensures { λ r. ⌜ Net (now (cells .entry)) (batchCells size (insideGroups size (batchGroups (now (edits .entry)))) (now (cells .entry))) (length (now (edits .entry)) / 4 + 262144) r ⌝ }
+    ensures { λ r. ⌜ Net (now (cells .entry))
+        (batchCells size (insideGroups size (batchGroups (now (edits .entry)))) (now (cells .entry))) (length (now (edits .entry)) / 4 + 262144) r ⌝ }
 {
     if edits.len() < LONG {
         return chunk_groups::batch_change(cells, size, edits);

@@ -3,7 +3,8 @@ use mathlib.Core.Bool.{Bool, _&&_, cond}
 use lib.IntN.{ℤ, pos}
 use lib.Ieee.{Float, neg, le}
 use Rattle.num.specs.Num.{nearest, max₃₂, toI32}
-unfoldable pub use Rattle.column_shapes.specs.Shapes.{offsetFbm₃₂, scaledFbm₃₂, smoothRamp₃₂, ridge₃₂, ridgesOf, ridges₃₂, plateau₃₂, continent₃₂, hillBoost₃₂, coldBoost₃₂, clampOf}
+unfoldable pub use Rattle.column_shapes.specs.Shapes.{offsetFbm₃₂, scaledFbm₃₂, smoothRamp₃₂, ridge₃₂, ridgesOf, ridges₃₂, plateau₃₂, continent₃₂}
+unfoldable pub use Rattle.column_shapes.specs.Shapes.{hillBoost₃₂, coldBoost₃₂, clampOf}
 use Rattle.column.specs.Floats.{_+f_, _-f_, _*f_, _/f_, nat, real}
 use Rattle.column.specs.declared.Column.{Column}
 use Rattle.column.specs.declared.Relief.{Relief}
@@ -71,7 +72,8 @@ unfoldable pub heightsOf : Column → Relief → Float → Column
 heightsOf c n sl =
     columnWith (c .temp) (c .moisture) (c .dw) (c .mw) (c .fw) (c .pw)
     (sl +f nat 1 +f n .continent *f nat 6 +f n .dune *f nat 6 +f n .micro *f nat 2)
-    (sl +f nat 6 +f (n .continent *f nat 20 +f n .ridges *f nat 55 +f n .detail *f nat 12 +f n .micro *f nat 3) *f (nat 1 +f coldBoost₃₂ (c .temp) *f nearest 1 2))
+    (sl +f nat 6 +f (n .continent *f nat 20 +f n .ridges *f nat 55 +f n .detail *f nat 12 +f n .micro *f nat 3)
+    *f (nat 1 +f coldBoost₃₂ (c .temp) *f nearest 1 2))
     (sl +f nat 3 +f n .continent *f nat 14 +f n .plateau *f nat 8 +f n .detail *f nat 10 +f n .micro *f nat 3)
     (sl +f nat 2 +f n .continent *f nat 10 +f n .detail *f nat 6 +f n .micro *f nat 2 +f hillBoost₃₂ (n .«hill_factor»))
 

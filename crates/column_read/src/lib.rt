@@ -39,8 +39,17 @@ pub fn relief_in(
     hill: &[f32],
     i: usize,
 ) -> Relief
-    requires { ⌜ (i < 64) × (i < length (now continent)) × (i < length (now detail)) × (i < length (now micro)) × (i < length (now ridge1)) × (i < length (now ridge2)) × (i < length (now steps)) × (i < length (now dune)) × (i < length (now hill)) ⌝ }
-    ensures { λ r. ⌜ r ≡ reliefIn (now (continent .entry)) (now (detail .entry)) (now (micro .entry)) (now (ridge1 .entry)) (now (ridge2 .entry)) (now (steps .entry)) (now (dune .entry)) (now (hill .entry)) i ⌝ }
+    requires { ⌜ (i < 64)
+        × (i < length (now continent))
+        × (i < length (now detail))
+        × (i < length (now micro))
+        × (i < length (now ridge1))
+        × (i < length (now ridge2))
+        × (i < length (now steps))
+        × (i < length (now dune))
+        × (i < length (now hill)) ⌝ }
+    ensures { λ r. ⌜ r ≡ reliefIn (now (continent .entry)) (now (detail .entry)) (now (micro .entry)) (now (ridge1 .entry))
+        (now (ridge2 .entry)) (now (steps .entry)) (now (dune .entry)) (now (hill .entry)) i ⌝ }
 {
     let ridges = ridges_of(ridge1[i], ridge2[i]);
     let plateau = plateau(steps[i]);

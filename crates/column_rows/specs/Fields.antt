@@ -39,7 +39,8 @@ module _ (n : ℕ) (xs : List Float) (floors : List ℕ) (eases : List Float) (d
   lies x first octaves h e = record {
     tells = λ (k i : ℕ) a b.
         let p : (first + k) * 64 + i ≡ first * 64 + k * 64 + i = omega arith in
-        subst (λ (j : ℕ). Tells floors eases j (x i *f freqAt k)) p (subst (Tells floors eases ((first + k) * 64 + i)) (e i k a) (d .tells (first + k) i (omega arith) b));
+        subst (λ (j : ℕ). Tells floors eases j (x i *f freqAt k)) p
+        (subst (Tells floors eases ((first + k) * 64 + i)) (e i k a) (d .tells (first + k) i (omega arith) b));
   }
 
   -- of a field whose x is moved, and of one whose x is only scaled
@@ -55,46 +56,76 @@ module _ (n : ℕ) (xs : List Float) (floors : List ℕ) (eases : List Float) (d
   unfolding scaledRow scaledFbm₃₂ scaledAt
   unmoved z scale first octaves h e vals s = s .is (scaledAt xs scale) (lies (scaledAt xs scale) first octaves h e)
 
-  pub temp-row : (z : Float) (vals : List Float) → Summed (z *f nearest 3 1000 +f nat 100) 4 0 n floors eases vals → Row n (offsetRow xs z (nearest 3 1000) (nat 100) (nat 100) 4) vals
+  pub temp-row : (z : Float) (vals : List Float) → Summed (z *f nearest 3 1000 +f nat 100) 4 0 n floors eases vals
+      → Row n (offsetRow xs z (nearest 3 1000) (nat 100) (nat 100) 4) vals
   unfolding offsetAt coordsOf columnCoord climateX scaledBy freqAt nearest mul
-  temp-row z = moved z (nearest 3 1000) (nat 100) (nat 100) 0 4 (omega arith) (λ (i : ℕ). below4 (λ (k : ℕ). coordsOf xs (0 + k) i ≡ offsetAt xs (nearest 3 1000) (nat 100) i *f freqAt k) refl refl refl refl)
+  temp-row z =
+      moved z (nearest 3 1000) (nat 100) (nat 100) 0 4 (omega arith)
+      (λ (i : ℕ). below4 (λ (k : ℕ). coordsOf xs (0 + k) i ≡ offsetAt xs (nearest 3 1000) (nat 100) i *f freqAt k) refl refl refl refl)
 
-  pub moisture-row : (z : Float) (vals : List Float) → Summed (z *f nearest 4 1000 +f nat 300) 4 256 n floors eases vals → Row n (offsetRow xs z (nearest 4 1000) (neg (nat 200)) (nat 300) 4) vals
+  pub moisture-row : (z : Float) (vals : List Float) → Summed (z *f nearest 4 1000 +f nat 300) 4 256 n floors eases vals
+      → Row n (offsetRow xs z (nearest 4 1000) (neg (nat 200)) (nat 300) 4) vals
   unfolding offsetAt coordsOf columnCoord climateX scaledBy freqAt nearest mul
-  moisture-row z = moved z (nearest 4 1000) (neg (nat 200)) (nat 300) 4 4 (omega arith) (λ (i : ℕ). below4 (λ (k : ℕ). coordsOf xs (4 + k) i ≡ offsetAt xs (nearest 4 1000) (neg (nat 200)) i *f freqAt k) refl refl refl refl)
+  moisture-row z =
+      moved z (nearest 4 1000) (neg (nat 200)) (nat 300) 4 4 (omega arith)
+      (λ (i : ℕ). below4 (λ (k : ℕ). coordsOf xs (4 + k) i ≡ offsetAt xs (nearest 4 1000) (neg (nat 200)) i *f freqAt k) refl refl refl refl)
 
-  pub warp-x-row : (z : Float) (vals : List Float) → Summed (z *f nearest 3 1000 +f nat 800) 3 512 n floors eases vals → Row n (offsetRow xs z (nearest 3 1000) (nat 700) (nat 800) 3) vals
+  pub warp-x-row : (z : Float) (vals : List Float) → Summed (z *f nearest 3 1000 +f nat 800) 3 512 n floors eases vals
+      → Row n (offsetRow xs z (nearest 3 1000) (nat 700) (nat 800) 3) vals
   unfolding offsetAt coordsOf columnCoord climateX scaledBy freqAt nearest mul
-  warp-x-row z = moved z (nearest 3 1000) (nat 700) (nat 800) 8 3 (omega arith) (λ (i : ℕ). below3 (λ (k : ℕ). coordsOf xs (8 + k) i ≡ offsetAt xs (nearest 3 1000) (nat 700) i *f freqAt k) refl refl refl)
+  warp-x-row z =
+      moved z (nearest 3 1000) (nat 700) (nat 800) 8 3 (omega arith)
+      (λ (i : ℕ). below3 (λ (k : ℕ). coordsOf xs (8 + k) i ≡ offsetAt xs (nearest 3 1000) (nat 700) i *f freqAt k) refl refl refl)
 
-  pub warp-z-row : (z : Float) (vals : List Float) → Summed (z *f nearest 3 1000 +f nat 100) 3 704 n floors eases vals → Row n (offsetRow xs z (nearest 3 1000) (nat 900) (nat 100) 3) vals
+  pub warp-z-row : (z : Float) (vals : List Float) → Summed (z *f nearest 3 1000 +f nat 100) 3 704 n floors eases vals
+      → Row n (offsetRow xs z (nearest 3 1000) (nat 900) (nat 100) 3) vals
   unfolding offsetAt coordsOf columnCoord climateX scaledBy freqAt nearest mul
-  warp-z-row z = moved z (nearest 3 1000) (nat 900) (nat 100) 11 3 (omega arith) (λ (i : ℕ). below3 (λ (k : ℕ). coordsOf xs (11 + k) i ≡ offsetAt xs (nearest 3 1000) (nat 900) i *f freqAt k) refl refl refl)
+  warp-z-row z =
+      moved z (nearest 3 1000) (nat 900) (nat 100) 11 3 (omega arith)
+      (λ (i : ℕ). below3 (λ (k : ℕ). coordsOf xs (11 + k) i ≡ offsetAt xs (nearest 3 1000) (nat 900) i *f freqAt k) refl refl refl)
 
   pub detail-row : (z : Float) (vals : List Float) → Summed (z *f nearest 25 1000) 4 896 n floors eases vals → Row n (scaledRow xs z (nearest 25 1000) 4) vals
   unfolding scaledAt coordsOf columnCoord reliefX scaledBy freqAt nearest mul
-  detail-row z = unmoved z (nearest 25 1000) 14 4 (omega arith) (λ (i : ℕ). below4 (λ (k : ℕ). coordsOf xs (14 + k) i ≡ scaledAt xs (nearest 25 1000) i *f freqAt k) refl refl refl refl)
+  detail-row z =
+      unmoved z (nearest 25 1000) 14 4 (omega arith)
+      (λ (i : ℕ). below4 (λ (k : ℕ). coordsOf xs (14 + k) i ≡ scaledAt xs (nearest 25 1000) i *f freqAt k) refl refl refl refl)
 
   pub micro-row : (z : Float) (vals : List Float) → Summed (z *f nearest 8 100) 2 1152 n floors eases vals → Row n (scaledRow xs z (nearest 8 100) 2) vals
   unfolding scaledAt coordsOf columnCoord reliefX scaledBy freqAt nearest mul
-  micro-row z = unmoved z (nearest 8 100) 18 2 (omega arith) (λ (i : ℕ). below2 (λ (k : ℕ). coordsOf xs (18 + k) i ≡ scaledAt xs (nearest 8 100) i *f freqAt k) refl refl)
+  micro-row z =
+      unmoved z (nearest 8 100) 18 2 (omega arith) (λ (i : ℕ). below2 (λ (k : ℕ). coordsOf xs (18 + k) i ≡ scaledAt xs (nearest 8 100) i *f freqAt k) refl refl)
 
-  pub ridge1-row : (z : Float) (vals : List Float) → Summed (z *f nearest 8 1000 +f nat 500) 4 1280 n floors eases vals → Row n (offsetRow xs z (nearest 8 1000) (nat 500) (nat 500) 4) vals
+  pub ridge1-row : (z : Float) (vals : List Float) → Summed (z *f nearest 8 1000 +f nat 500) 4 1280 n floors eases vals
+      → Row n (offsetRow xs z (nearest 8 1000) (nat 500) (nat 500) 4) vals
   unfolding offsetAt coordsOf columnCoord reliefX scaledBy freqAt nearest mul
-  ridge1-row z = moved z (nearest 8 1000) (nat 500) (nat 500) 20 4 (omega arith) (λ (i : ℕ). below4 (λ (k : ℕ). coordsOf xs (20 + k) i ≡ offsetAt xs (nearest 8 1000) (nat 500) i *f freqAt k) refl refl refl refl)
+  ridge1-row z =
+      moved z (nearest 8 1000) (nat 500) (nat 500) 20 4 (omega arith)
+      (λ (i : ℕ). below4 (λ (k : ℕ). coordsOf xs (20 + k) i ≡ offsetAt xs (nearest 8 1000) (nat 500) i *f freqAt k) refl refl refl refl)
 
-  pub ridge2-row : (z : Float) (vals : List Float) → Summed (z *f nearest 15 1000 +f nat 200) 3 1536 n floors eases vals → Row n (offsetRow xs z (nearest 15 1000) (nat 300) (nat 200) 3) vals
+  pub ridge2-row : (z : Float) (vals : List Float) → Summed (z *f nearest 15 1000 +f nat 200) 3 1536 n floors eases vals
+      → Row n (offsetRow xs z (nearest 15 1000) (nat 300) (nat 200) 3) vals
   unfolding offsetAt coordsOf columnCoord reliefX scaledBy freqAt nearest mul
-  ridge2-row z = moved z (nearest 15 1000) (nat 300) (nat 200) 24 3 (omega arith) (λ (i : ℕ). below3 (λ (k : ℕ). coordsOf xs (24 + k) i ≡ offsetAt xs (nearest 15 1000) (nat 300) i *f freqAt k) refl refl refl)
+  ridge2-row z =
+      moved z (nearest 15 1000) (nat 300) (nat 200) 24 3 (omega arith)
+      (λ (i : ℕ). below3 (λ (k : ℕ). coordsOf xs (24 + k) i ≡ offsetAt xs (nearest 15 1000) (nat 300) i *f freqAt k) refl refl refl)
 
-  pub steps-row : (z : Float) (vals : List Float) → Summed (z *f nearest 6 1000 +f nat 600) 3 1728 n floors eases vals → Row n (offsetRow xs z (nearest 6 1000) (neg (nat 400)) (nat 600) 3) vals
+  pub steps-row : (z : Float) (vals : List Float) → Summed (z *f nearest 6 1000 +f nat 600) 3 1728 n floors eases vals
+      → Row n (offsetRow xs z (nearest 6 1000) (neg (nat 400)) (nat 600) 3) vals
   unfolding offsetAt coordsOf columnCoord lowlandX scaledBy freqAt nearest mul
-  steps-row z = moved z (nearest 6 1000) (neg (nat 400)) (nat 600) 27 3 (omega arith) (λ (i : ℕ). below3 (λ (k : ℕ). coordsOf xs (27 + k) i ≡ offsetAt xs (nearest 6 1000) (neg (nat 400)) i *f freqAt k) refl refl refl)
+  steps-row z =
+      moved z (nearest 6 1000) (neg (nat 400)) (nat 600) 27 3 (omega arith)
+      (λ (i : ℕ). below3 (λ (k : ℕ). coordsOf xs (27 + k) i ≡ offsetAt xs (nearest 6 1000) (neg (nat 400)) i *f freqAt k) refl refl refl)
 
-  pub dune-row : (z : Float) (vals : List Float) → Summed (z *f nearest 2 100 +f nat 50) 3 1920 n floors eases vals → Row n (offsetRow xs z (nearest 2 100) (nat 50) (nat 50) 3) vals
+  pub dune-row : (z : Float) (vals : List Float) → Summed (z *f nearest 2 100 +f nat 50) 3 1920 n floors eases vals
+      → Row n (offsetRow xs z (nearest 2 100) (nat 50) (nat 50) 3) vals
   unfolding offsetAt coordsOf columnCoord lowlandX scaledBy freqAt nearest mul
-  dune-row z = moved z (nearest 2 100) (nat 50) (nat 50) 30 3 (omega arith) (λ (i : ℕ). below3 (λ (k : ℕ). coordsOf xs (30 + k) i ≡ offsetAt xs (nearest 2 100) (nat 50) i *f freqAt k) refl refl refl)
+  dune-row z =
+      moved z (nearest 2 100) (nat 50) (nat 50) 30 3 (omega arith)
+      (λ (i : ℕ). below3 (λ (k : ℕ). coordsOf xs (30 + k) i ≡ offsetAt xs (nearest 2 100) (nat 50) i *f freqAt k) refl refl refl)
 
-  pub hill-row : (z : Float) (vals : List Float) → Summed (z *f nearest 1 100 +f nat 250) 3 2112 n floors eases vals → Row n (offsetRow xs z (nearest 1 100) (nat 150) (nat 250) 3) vals
+  pub hill-row : (z : Float) (vals : List Float) → Summed (z *f nearest 1 100 +f nat 250) 3 2112 n floors eases vals
+      → Row n (offsetRow xs z (nearest 1 100) (nat 150) (nat 250) 3) vals
   unfolding offsetAt coordsOf columnCoord lowlandX scaledBy freqAt nearest mul
-  hill-row z = moved z (nearest 1 100) (nat 150) (nat 250) 33 3 (omega arith) (λ (i : ℕ). below3 (λ (k : ℕ). coordsOf xs (33 + k) i ≡ offsetAt xs (nearest 1 100) (nat 150) i *f freqAt k) refl refl refl)
+  hill-row z =
+      moved z (nearest 1 100) (nat 150) (nat 250) 33 3 (omega arith)
+      (λ (i : ℕ). below3 (λ (k : ℕ). coordsOf xs (33 + k) i ≡ offsetAt xs (nearest 1 100) (nat 150) i *f freqAt k) refl refl refl)

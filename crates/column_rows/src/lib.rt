@@ -69,7 +69,12 @@ fn warp_zs(z: f32, n: usize, vals: &mut [f32])
 
 // `continent` at each place.
 fn continent_row(xs: &[f32], z: f32, n: usize, floors: &[u32], eases: &[f32], vals: &mut [f32])
-    requires { ⌜ (n ≤ 64) × (n ≤ length (now xs)) × (2304 ≤ length (now floors)) × (2304 ≤ length (now eases)) × (n ≤ length (now vals)) × Tabled n (now xs) (now floors) (now eases) ⌝ }
+    requires { ⌜ (n ≤ 64)
+        × (n ≤ length (now xs))
+        × (2304 ≤ length (now floors))
+        × (2304 ≤ length (now eases))
+        × (n ≤ length (now vals))
+        × Tabled n (now xs) (now floors) (now eases) ⌝ }
     ensures { λ _. ⌜ Row n (continentRow (now (xs .entry)) z) (now (vals .exit)) ⌝ }
 {
     let mut warp_x = [0.0f32; PLACES];
@@ -132,7 +137,14 @@ pub fn height_rows(
     detail: &mut [f32],
     micro: &mut [f32],
 )
-    requires { ⌜ (n ≤ 64) × (n ≤ length (now xs)) × (2304 ≤ length (now floors)) × (2304 ≤ length (now eases)) × (n ≤ length (now continent)) × (n ≤ length (now detail)) × (n ≤ length (now micro)) × Tabled n (now xs) (now floors) (now eases) ⌝ }
+    requires { ⌜ (n ≤ 64)
+        × (n ≤ length (now xs))
+        × (2304 ≤ length (now floors))
+        × (2304 ≤ length (now eases))
+        × (n ≤ length (now continent))
+        × (n ≤ length (now detail))
+        × (n ≤ length (now micro))
+        × Tabled n (now xs) (now floors) (now eases) ⌝ }
     ensures { λ _. ⌜ HeightRows n (now (xs .entry)) z (now (continent .exit)) (now (detail .exit)) (now (micro .exit)) ⌝ }
 {
     continent_row(xs, z, n, floors, eases, continent);
@@ -166,7 +178,12 @@ pub fn lowland_rows(
     dune: &mut [f32],
     hill: &mut [f32],
 )
-    requires { ⌜ (n ≤ 64) × (2304 ≤ length (now floors)) × (2304 ≤ length (now eases)) × (n ≤ length (now steps)) × (n ≤ length (now dune)) × (n ≤ length (now hill)) ⌝ }
+    requires { ⌜ (n ≤ 64)
+        × (2304 ≤ length (now floors))
+        × (2304 ≤ length (now eases))
+        × (n ≤ length (now steps))
+        × (n ≤ length (now dune))
+        × (n ≤ length (now hill)) ⌝ }
     ensures { λ _. ⌜ LowlandBy n z (now (floors .entry)) (now (eases .entry)) (now (steps .exit)) (now (dune .exit)) (now (hill .exit)) ⌝ }
 {
     fbm_row(z * 0.006 + 600.0, 3, STEPS_AT, n, floors, eases, steps);

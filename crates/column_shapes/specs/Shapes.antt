@@ -33,7 +33,8 @@ plateau₃₂ raw = floor₃₂ (raw *f nat 5) /f nat 5 *f nearest 6 10 +f raw *
 
 unfoldable pub continent₃₂ : Float → Float → Float
 continent₃₂ x z =
-    scaledFbm₃₂ (x +f offsetFbm₃₂ x z (nearest 3 1000) (nat 700) (nat 800) 3 *f nat 40) (z +f offsetFbm₃₂ x z (nearest 3 1000) (nat 900) (nat 100) 3 *f nat 40) (nearest 4 1000) 5
+    scaledFbm₃₂ (x +f offsetFbm₃₂ x z (nearest 3 1000) (nat 700) (nat 800) 3 *f nat 40)
+    (z +f offsetFbm₃₂ x z (nearest 3 1000) (nat 900) (nat 100) 3 *f nat 40) (nearest 4 1000) 5
 
 unfoldable pub hillBoost₃₂ : Float → Float
 hillBoost₃₂ h = cond (lt (nearest 65 100) h) ((h -f nearest 65 100) *f nat 80) (nat 0)

@@ -32,8 +32,14 @@ fn note_row(
     heights: &mut [u16],
     biomes: &mut [u8],
 )
-    requires { ⌜ Tall w × Near o × (z < o .size) × RowTabled w o (now xs) (now floors) (now eases) × (o .size * o .size ≤ length (now heights)) × (o .size * o .size ≤ length (now biomes)) ⌝ }
-    ensures { λ _. ⌜ (now (heights .exit) ≡ steps (o .size) (noteAt (columnHeight w o) (z * o .size)) (now (heights .entry))) × (now (biomes .exit) ≡ steps (o .size) (noteAt (columnBiome w o) (z * o .size)) (now (biomes .entry))) ⌝ }
+    requires { ⌜ Tall w
+        × Near o
+        × (z < o .size)
+        × RowTabled w o (now xs) (now floors) (now eases)
+        × (o .size * o .size ≤ length (now heights))
+        × (o .size * o .size ≤ length (now biomes)) ⌝ }
+    ensures { λ _. ⌜ (now (heights .exit) ≡ steps (o .size) (noteAt (columnHeight w o) (z * o .size)) (now (heights .entry)))
+        × (now (biomes .exit) ≡ steps (o .size) (noteAt (columnBiome w o) (z * o .size)) (now (biomes .entry))) ⌝ }
 {
     let n = o.size;
     let mut temp = [0.0f32; PLACES];
@@ -81,8 +87,13 @@ fn note_each(
     heights: &mut [u16],
     biomes: &mut [u8],
 )
-    requires { ⌜ Tall w × Near o × RowTabled w o (now xs) (now floors) (now eases) × (o .size * o .size ≤ length (now heights)) × (o .size * o .size ≤ length (now biomes)) ⌝ }
-    ensures { λ _. ⌜ (now (heights .exit) ≡ tab (o .size * o .size) (columnHeight w o) ++ drop (o .size * o .size) (now (heights .entry))) × (now (biomes .exit) ≡ tab (o .size * o .size) (columnBiome w o) ++ drop (o .size * o .size) (now (biomes .entry))) ⌝ }
+    requires { ⌜ Tall w
+        × Near o
+        × RowTabled w o (now xs) (now floors) (now eases)
+        × (o .size * o .size ≤ length (now heights))
+        × (o .size * o .size ≤ length (now biomes)) ⌝ }
+    ensures { λ _. ⌜ (now (heights .exit) ≡ tab (o .size * o .size) (columnHeight w o) ++ drop (o .size * o .size) (now (heights .entry)))
+        × (now (biomes .exit) ≡ tab (o .size * o .size) (columnBiome w o) ++ drop (o .size * o .size) (now (biomes .entry))) ⌝ }
 {
     let size = o.size;
     let mut z = 0;
@@ -95,7 +106,8 @@ fn note_each(
 // Fills the two caches, as the Rust fills its own. The x of the columns, which all rows share, are noted once.
 pub fn note_tops(w: World, o: Frame, heights: &mut [u16], biomes: &mut [u8])
     requires { ⌜ Tall w × Near o × (o .size * o .size ≤ length (now heights)) × (o .size * o .size ≤ length (now biomes)) ⌝ }
-    ensures { λ _. ⌜ (now (heights .exit) ≡ tab (o .size * o .size) (columnHeight w o) ++ drop (o .size * o .size) (now (heights .entry))) × (now (biomes .exit) ≡ tab (o .size * o .size) (columnBiome w o) ++ drop (o .size * o .size) (now (biomes .entry))) ⌝ }
+    ensures { λ _. ⌜ (now (heights .exit) ≡ tab (o .size * o .size) (columnHeight w o) ++ drop (o .size * o .size) (now (heights .entry)))
+        × (now (biomes .exit) ≡ tab (o .size * o .size) (columnBiome w o) ++ drop (o .size * o .size) (now (biomes .entry))) ⌝ }
 {
     let mut xs = [0.0f32; PLACES];
     let mut floors = [0u32; TABLE];

@@ -69,8 +69,14 @@ pub fn put_row(
     heights: &mut [u16],
     biomes: &mut [u8],
 )
-    requires { ⌜ Tall w × Near o × (z < o .size) × RowNoise w o z (now temp) (now moisture) (now continent) (now detail) (now micro) (now ridge1) (now ridge2) (now flat) (now dune) (now hill) × (o .size * o .size ≤ length (now heights)) × (o .size * o .size ≤ length (now biomes)) ⌝ }
-    ensures { λ _. ⌜ (now (heights .exit) ≡ steps (o .size) (noteAt (columnHeight w o) (z * o .size)) (now (heights .entry))) × (now (biomes .exit) ≡ steps (o .size) (noteAt (columnBiome w o) (z * o .size)) (now (biomes .entry))) ⌝ }
+    requires { ⌜ Tall w
+        × Near o
+        × (z < o .size)
+        × RowNoise w o z (now temp) (now moisture) (now continent) (now detail) (now micro) (now ridge1) (now ridge2) (now flat) (now dune) (now hill)
+        × (o .size * o .size ≤ length (now heights))
+        × (o .size * o .size ≤ length (now biomes)) ⌝ }
+    ensures { λ _. ⌜ (now (heights .exit) ≡ steps (o .size) (noteAt (columnHeight w o) (z * o .size)) (now (heights .entry)))
+        × (now (biomes .exit) ≡ steps (o .size) (noteAt (columnBiome w o) (z * o .size)) (now (biomes .entry))) ⌝ }
 {
     let m = z * o.size;
     let mut x = 0;

@@ -41,7 +41,9 @@ placesOk h = placeOk (h .«chunk_size») (h .cx) && placeOk (h .«chunk_size») 
 -- SCOPE 2.3: the number of the first limit that is broken, or 0
 unfoldable pub limitRefusal : Header → ℕ
 limitRefusal h =
-    refusal (must (sizeOk (h .«chunk_size»)) 1 ∷ must (seedOk (h .seed)) 2 ∷ must (seaOk (h .«sea_level»)) 3 ∷ must (heightOk (h .«world_height_blocks»)) 4 ∷ must (placesOk h) 5 ∷ [])
+    refusal
+    (must (sizeOk (h .«chunk_size»)) 1 ∷ must (seedOk (h .seed)) 2 ∷ must (seaOk (h .«sea_level»)) 3
+    ∷ must (heightOk (h .«world_height_blocks»)) 4 ∷ must (placesOk h) 5 ∷ [])
 
 -- the header in the order of the journal's first line (SCOPE 6.3)
 abbrev pub header : ℤ → ℤ → ℤ → ℤ → ℤ → ℤ → ℤ → Header

@@ -32,7 +32,14 @@ tall-of s p f =
     let l = b .least in
     let t = b .most in
     let m = f .sea in
-    record { top = b .n - 1; is = ap (λ (z : ℤ). z -ℤ pos 1) (b .is) ∙ one-less (b .n) (omega arith); least = omega arith; most = omega arith; sea = omega arith }
+    record {
+      top = b .n - 1;
+      is = ap (λ (z : ℤ). z -ℤ pos 1) (b .is)
+          ∙ one-less (b .n) (omega arith);
+      least = omega arith;
+      most = omega arith;
+      sea = omega arith;
+    }
 
 pub near-of : (s : TerrainConfig) (p : ChunkPos) → Fine s p → Near (frameOf s p)
 unfolding frameOf

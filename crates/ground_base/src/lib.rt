@@ -29,7 +29,13 @@ fn lay_rows(
     flags: &mut [bool],
     cells: &mut [u16],
 )
-    requires { ⌜ Tall w × Near o × TopsNoted w o (now heights) (now biomes) × places.Noted (o .size) 27 (caveCoord o) (now floors) (now eases) × RowLent o (now floors) (now eases) (now edges) (now flags) × (o .size ≤ length (now cuts)) × Cube (o .size) (now cells) ⌝ }
+    requires { ⌜ Tall w
+        × Near o
+        × TopsNoted w o (now heights) (now biomes)
+        × places.Noted (o .size) 27 (caveCoord o) (now floors) (now eases)
+        × RowLent o (now floors) (now eases) (now edges) (now flags)
+        × (o .size ≤ length (now cuts))
+        × Cube (o .size) (now cells) ⌝ }
     ensures { λ _. ⌜ now (cells .exit) ≡ baseCells w o ⌝ }
 {
     let size = o.size;

@@ -99,7 +99,8 @@ module _ (w : World) (o : Frame) where
       let er : i / o .size ≡ z * o .size + y = digits-div (z * o .size + y) hx in
       let ey : y ≡ i / o .size % o .size = sym (ap (λ (u : ℕ). u % o .size) er ∙ digits-mod z hy) in
       let ez : z ≡ i / o .size / o .size = sym (ap (λ (u : ℕ). u / o .size) er ∙ digits-div z hy) in
-      cell-told (topWith (getD hs (z * o .size + x) 0) (getD bs (z * o .size + x) 0)) (w .«sea_level») (o .ox +ℤ pos x) (o .oy +ℤ pos y) (o .oz +ℤ pos z) (getD flags x false)
+      cell-told (topWith (getD hs (z * o .size + x) 0) (getD bs (z * o .size + x) 0)) (w .«sea_level») (o .ox +ℤ pos x) (o .oy +ℤ pos y) (o .oz +ℤ pos z)
+      (getD flags x false)
       (λ g. f .each x hx g)
       ∙ ap (λ (u : Top). cellUnder u (w .«sea_level») (o .ox +ℤ pos x) (o .oy +ℤ pos y) (o .oz +ℤ pos z)) (top-is hs bs n x z hx hz)
       ∙ ap₃ (λ (a b c : ℕ). baseCell w (o .ox +ℤ pos a) (o .oy +ℤ pos b) (o .oz +ℤ pos c)) ex ey ez
@@ -118,7 +119,8 @@ pub record HighestTo (z size n r : ℕ) (heights : List ℕ) : Type 0 where
   pub most : r < 65536
   pub each : (x : ℕ) → x < n → getD heights (z * size + x) 0 ≤ r
 
-pub highest-more : (z size n r s : ℕ) (heights : List ℕ) → r ≤ s → s < 65536 → getD heights (z * size + n) 0 ≤ s → HighestTo z size n r heights → HighestTo z size (n + 1) s heights
+pub highest-more : (z size n r s : ℕ) (heights : List ℕ) → r ≤ s → s < 65536 → getD heights (z * size + n) 0 ≤ s → HighestTo z size n r heights
+    → HighestTo z size (n + 1) s heights
 highest-more z size n r s heights p m q g = record { least = (let l = g .least in omega arith); most = m; each = λ (x : ℕ) h. here x h (ltb x n) refl }
   where
     here : (x : ℕ) → x < n + 1 → (b : Bool) → ltb x n ≡ b → getD heights (z * size + x) 0 ≤ s

@@ -55,8 +55,10 @@ unfolding belowLevel
 in-range o h size y p q e =
     let g = and-both (ltZ (pos 0) (o +ℤ pos y)) (ltZ (o +ℤ pos y) (pos h -ℤ pos 1)) e in
     let low = below-no o y (g .0) in
-    let high = below-yes o (h - 1) y (subst (λ (u : ℤ). ltZ (o +ℤ pos y) u ≡ true) (one-less h p) (g .1)) in
-    (clip-le (localY 0 o (pos 1)) size y (ltb (localY 0 o (pos 1)) size) refl q low, clip-lt (localY 0 o (pos (h - 1))) size y (ltb (localY 0 o (pos (h - 1))) size) q high)
+    let high = below-yes o (h - 1) y (subst (λ (u : ℤ). ltZ (o +ℤ pos y) u ≡ true) (one-less h p) (g .1)) in (
+      clip-le (localY 0 o (pos 1)) size y (ltb (localY 0 o (pos 1)) size) refl q low,
+      clip-lt (localY 0 o (pos (h - 1))) size y (ltb (localY 0 o (pos (h - 1))) size) q high,
+    )
 
 -- a lower height admits caves on no other levels
 lower : (wy : ℤ) (h top : ℕ) → h ≤ top → ltZ wy (pos h) ≡ true → ltZ wy (pos top) ≡ true

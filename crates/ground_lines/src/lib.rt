@@ -54,7 +54,13 @@ pub fn lay_line(
     flags: &[bool],
     cells: &mut [u16],
 )
-    requires { ⌜ Tall w × Near o × (y < o .size) × (z < o .size) × TopsNoted w o (now heights) (now biomes) × Flagged o y z (now heights) (now flags) × DoneTo w o (z * o .size + y) (now cells) ⌝ }
+    requires { ⌜ Tall w
+        × Near o
+        × (y < o .size)
+        × (z < o .size)
+        × TopsNoted w o (now heights) (now biomes)
+        × Flagged o y z (now heights) (now flags)
+        × DoneTo w o (z * o .size + y) (now cells) ⌝ }
     ensures { λ _. ⌜ DoneTo w o (z * o .size + y + 1) (now (cells .exit)) ⌝ }
 {
     let size = o.size;

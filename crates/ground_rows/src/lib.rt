@@ -33,8 +33,13 @@ fn mark_line(
     edges: &mut [f32],
     flags: &mut [bool],
 ) -> usize
-    requires { ⌜ Near o × (y < o .size) × (z < o .size) × Ready o z lo hi from (now heights) (now cuts) (now floors) (now eases) (now edges) × RowLent o (now floors) (now eases) (now edges) (now flags) ⌝ }
-    ensures { λ r. ⌜ Ready o z lo hi r (now (heights .entry)) (now (cuts .entry)) (now (floors .entry)) (now (eases .entry)) (now (edges .exit)) × Flagged o y z (now (heights .entry)) (now (flags .exit)) ⌝ }
+    requires { ⌜ Near o
+        × (y < o .size)
+        × (z < o .size)
+        × Ready o z lo hi from (now heights) (now cuts) (now floors) (now eases) (now edges)
+        × RowLent o (now floors) (now eases) (now edges) (now flags) ⌝ }
+    ensures { λ r. ⌜ Ready o z lo hi r (now (heights .entry)) (now (cuts .entry)) (now (floors .entry)) (now (eases .entry)) (now (edges .exit))
+        × Flagged o y z (now (heights .entry)) (now (flags .exit)) ⌝ }
 {
     if (lo <= y) & (y < hi) {
         hollow_row(o, from, y, z, heights, cuts, floors, eases, edges, flags);
@@ -59,7 +64,13 @@ fn lay_levels(
     flags: &mut [bool],
     cells: &mut [u16],
 )
-    requires { ⌜ Tall w × Near o × (z < o .size) × TopsNoted w o (now heights) (now biomes) × Ready o z lo hi lo (now heights) (now cuts) (now floors) (now eases) (now edges) × RowLent o (now floors) (now eases) (now edges) (now flags) × DoneTo w o (z * o .size) (now cells) ⌝ }
+    requires { ⌜ Tall w
+        × Near o
+        × (z < o .size)
+        × TopsNoted w o (now heights) (now biomes)
+        × Ready o z lo hi lo (now heights) (now cuts) (now floors) (now eases) (now edges)
+        × RowLent o (now floors) (now eases) (now edges) (now flags)
+        × DoneTo w o (z * o .size) (now cells) ⌝ }
     ensures { λ _. ⌜ DoneTo w o (z * o .size + o .size) (now (cells .exit)) ⌝ }
 {
     let mut from = lo;
@@ -95,7 +106,14 @@ fn begin_row(
     edges: &mut [f32],
     cuts: &mut [bool],
 )
-    requires { ⌜ Near o × (hi ≤ o .size) × (z < o .size) × places.Noted (o .size) 27 (caveCoord o) (now floors) (now eases) × (length (now floors) ≡ 1728) × (length (now eases) ≡ 1728) × (length (now edges) ≡ 2048) × (o .size ≤ length (now cuts)) ⌝ }
+    requires { ⌜ Near o
+        × (hi ≤ o .size)
+        × (z < o .size)
+        × places.Noted (o .size) 27 (caveCoord o) (now floors) (now eases)
+        × (length (now floors) ≡ 1728)
+        × (length (now eases) ≡ 1728)
+        × (length (now edges) ≡ 2048)
+        × (o .size ≤ length (now cuts)) ⌝ }
     ensures { λ _. ⌜ RowBegun o z lo hi (now (cuts .exit)) (now (floors .entry)) (now (eases .entry)) (now (edges .exit)) ⌝ }
 {
     if lo >= hi {
@@ -119,7 +137,14 @@ pub fn lay_row(
     flags: &mut [bool],
     cells: &mut [u16],
 )
-    requires { ⌜ Tall w × Near o × (z < o .size) × TopsNoted w o (now heights) (now biomes) × places.Noted (o .size) 27 (caveCoord o) (now floors) (now eases) × RowLent o (now floors) (now eases) (now edges) (now flags) × (o .size ≤ length (now cuts)) × DoneTo w o (z * o .size) (now cells) ⌝ }
+    requires { ⌜ Tall w
+        × Near o
+        × (z < o .size)
+        × TopsNoted w o (now heights) (now biomes)
+        × places.Noted (o .size) 27 (caveCoord o) (now floors) (now eases)
+        × RowLent o (now floors) (now eases) (now edges) (now flags)
+        × (o .size ≤ length (now cuts))
+        × DoneTo w o (z * o .size) (now cells) ⌝ }
     ensures { λ _. ⌜ DoneTo w o (z * o .size + o .size) (now (cells .exit)) ⌝ }
 {
     let size = o.size;

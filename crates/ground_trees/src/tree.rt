@@ -174,7 +174,11 @@ fn tree_column(cells: &mut [u16], o: Frame, sea: i32, t: Top, x: usize, z: usize
 
 // Every column, z outer and x inner.
 pub fn place_trees(o: Frame, sea: i32, heights: &[u16], biomes: &[u8], cells: &mut [u16])
-    requires { ⌜ Near o × (o .size * o .size ≤ length (now heights)) × (o .size * o .size ≤ length (now biomes)) × Cube (o .size) (now cells) × ((k : ℕ) → k < o .size * o .size → 1 ≤ getD (now heights) k 0) ⌝ }
+    requires { ⌜ Near o
+        × (o .size * o .size ≤ length (now heights))
+        × (o .size * o .size ≤ length (now biomes))
+        × Cube (o .size) (now cells)
+        × ((k : ℕ) → k < o .size * o .size → 1 ≤ getD (now heights) k 0) ⌝ }
     ensures { λ _. ⌜ now (cells .exit) ≡ treesOf o sea (topIn (now (heights .entry)) (now (biomes .entry))) (now (cells .entry)) ⌝ }
 {
     let size = o.size;

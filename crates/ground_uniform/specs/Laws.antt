@@ -29,10 +29,12 @@ tab-same zero f g h = refl
 tab-same (suc n) f g h = ap₂ (λ (a : List ℕ) (v : ℕ). a ++ (v ∷ [])) (tab-same n f g (λ i l. h i (omega arith))) (h n (omega arith))
 
 -- a base that is one block at every level
-base-same : (w : World) (o : Frame) (v : ℕ) → 1 ≤ o .size → ((wx wz : ℤ) (y : ℕ) → y < o .size → baseCell w wx (o .oy +ℤ pos y) wz ≡ v) → baseCells w o ≡ allOf (o .size * o .size * o .size) v
+base-same : (w : World) (o : Frame) (v : ℕ) → 1 ≤ o .size → ((wx wz : ℤ) (y : ℕ) → y < o .size → baseCell w wx (o .oy +ℤ pos y) wz ≡ v)
+    → baseCells w o ≡ allOf (o .size * o .size * o .size) v
 unfolding baseCells baseNumbered allOf
 base-same w o v p h =
-    tab-same (o .size * o .size * o .size) (baseNumbered w o) (λ (i : ℕ). v) (λ i l. h (o .ox +ℤ pos (i % o .size)) (o .oz +ℤ pos (i / o .size / o .size)) (i / o .size % o .size) (mod-lt (i / o .size) p))
+    tab-same (o .size * o .size * o .size) (baseNumbered w o) (λ (i : ℕ). v)
+    (λ i l. h (o .ox +ℤ pos (i % o .size)) (o .oz +ℤ pos (i / o .size / o .size)) (i / o .size % o .size) (mod-lt (i / o .size) p))
 
 -- ---- below
 
@@ -80,7 +82,9 @@ ground-deep w o t m e =
     let up : (y : ℕ) → o .size ≤ localY (o .size) (o .oy) (pos y) =
     λ y. subst (λ (z : ℤ). o .size ≤ localY (o .size) z (pos y)) (sym (b .is)) (local-above (o .size) (b .n) y (omega arith)) in
     let base =
-    base-same w o 1 (m .some) (λ wx wz y l. ap (λ (z : ℤ). baseCell w wx z wz) (ap (λ (z : ℤ). z +ℤ pos y) (b .is) ∙ level-under (b .n) (o .size) y (omega arith) l) ∙ base-under w t wx wz (b .n - y) (omega arith)) in
+    base-same w o 1 (m .some)
+    (λ wx wz y l. ap (λ (z : ℤ). baseCell w wx z wz) (ap (λ (z : ℤ). z +ℤ pos y) (b .is) ∙ level-under (b .n) (o .size) y (omega arith) l)
+    ∙ base-under w t wx wz (b .n - y) (omega arith)) in
     trees-out o (w .«sea_level») (topOf w o) (bouldersOf o (topOf w o) (baseCells w o)) (λ k. up (columnHeight w o k - 1))
     ∙ boulders-out o (topOf w o) (baseCells w o) (λ k j l. up (columnHeight w o k + j))
     ∙ base
@@ -123,6 +127,7 @@ ground-sky w o t m e =
     λ y l. subst (λ (z : ℤ). o .size ≤ localY (o .size) z (pos y)) (sym (b .is)) (local-below (o .size) (b .a) y l) in
     let base =
     base-same w o 0 (m .some) (λ wx wz y l. ap (λ (z : ℤ). baseCell w wx (z +ℤ pos y) wz) (b .is) ∙ air-over w t wx wz (b .a + y) (omega arith) (b .dry y)) in
-    trees-out o (w .«sea_level») (topOf w o) (bouldersOf o (topOf w o) (baseCells w o)) (λ k. let h = column-most w o t k in down (columnHeight w o k - 1) (omega arith))
+    trees-out o (w .«sea_level») (topOf w o) (bouldersOf o (topOf w o) (baseCells w o))
+    (λ k. let h = column-most w o t k in down (columnHeight w o k - 1) (omega arith))
     ∙ boulders-out o (topOf w o) (baseCells w o) (λ k j l. let h = column-most w o t k in down (columnHeight w o k + j) (omega arith))
     ∙ base

@@ -189,7 +189,8 @@ pub extern "C" fn pl_session_fresh(
     cells: &mut [u16],
     journal: &mut [u8],
 ) -> Start
-    ensures { λ r. ⌜ begunInC r (now (cells .exit)) (now (journal .exit)) ≡ freshInC (sessionFreshDoes config pos (now (cells .entry)) (now (journal .entry))) ⌝ }
+    ensures { λ r. ⌜ begunInC r (now (cells .exit)) (now (journal .exit))
+        ≡ freshInC (sessionFreshDoes config pos (now (cells .entry)) (now (journal .entry))) ⌝ }
 {
     host_starts::fresh_start(session_fresh::fresh(config, pos, cells, journal))
 }

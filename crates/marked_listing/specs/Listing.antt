@@ -53,7 +53,8 @@ abbrev first : Header
 first = header (pos 0) (pos 4096) (pos 256) (pos 2) (pos 0) (pos 128) (pos 0)
 
 opens : openingOf listingJournal 48 ≡ Opens first 45 23
-unfolding openingOf lines linesFrom committed headerOf taggedOf fields integersOf integerOf wholeOf limitRefusal refusal sizeOk seedOk seaOk heightOk placesOk placeOk
+unfolding openingOf lines linesFrom committed headerOf taggedOf fields integersOf integerOf wholeOf limitRefusal refusal sizeOk seedOk seaOk heightOk
+    placesOk placeOk
 opens = refl
 
 later : follow 2 2 (active []) (lines (drop 23 (take 45 listingJournal))) ≡ read (active (set 0 0 0 0 ∷ []))

@@ -68,5 +68,6 @@ base =
 pub listing-ground : ground listingConfig listingPlace ≡ eightWaters
 unfolding ground groundIn frameOf
 listing-ground =
-    bare (pos 0) (pos 256) (pos 0) (topOf (worldOf listingConfig) (frameOf listingConfig listingPlace)) (worldOf listingConfig .«sea_level») (baseCells (worldOf listingConfig) (frameOf listingConfig listingPlace))
+    bare (pos 0) (pos 256) (pos 0) (topOf (worldOf listingConfig) (frameOf listingConfig listingPlace)) (worldOf listingConfig .«sea_level»)
+    (baseCells (worldOf listingConfig) (frameOf listingConfig listingPlace))
     ∙ base

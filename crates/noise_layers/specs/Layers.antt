@@ -43,7 +43,8 @@ module _ (to : ℕ) (f : ℕ → Float) (old : List Float) where
   pub laid-none : RowLaid to 0 f old old
   laid-none = record { long = refl; holds = λ (i : ℕ) h. absurd (omega arith); below = λ (j : ℕ) h. refl; above = λ (j : ℕ) h. refl }
 
-  pub laid-more : (n : ℕ) (new : List Float) (v : Float) → to + n < length old → v ≡ f n → RowLaid to n f old new → RowLaid to (n + 1) f old (set new (to + n) v)
+  pub laid-more : (n : ℕ) (new : List Float) (v : Float) → to + n < length old → v ≡ f n → RowLaid to n f old new
+      → RowLaid to (n + 1) f old (set new (to + n) v)
   laid-more n new v h e l = record {
     long = length-set new (to + n) v ∙ l .long;
     holds = λ (i : ℕ) k. here i k (ltb i n) refl;

@@ -18,7 +18,8 @@ module _ (floors : List ℕ) (eases edges : List Float) (x y z : Float) where
 
   abbrev between : ℤ → ℤ → Float → Float → Float
   between iy iz fy fz =
-      betweenOf (edge₃₂ (floorI x) iy iz (ease₃₂ x)) (edge₃₂ (floorI x) (next iy) iz (ease₃₂ x)) (edge₃₂ (floorI x) iy (next iz) (ease₃₂ x)) (edge₃₂ (floorI x) (next iy) (next iz) (ease₃₂ x)) fy fz
+      betweenOf (edge₃₂ (floorI x) iy iz (ease₃₂ x)) (edge₃₂ (floorI x) (next iy) iz (ease₃₂ x)) (edge₃₂ (floorI x) iy (next iz) (ease₃₂ x))
+      (edge₃₂ (floorI x) (next iy) (next iz) (ease₃₂ x)) fy fz
 
   between-is : between (floorI y) (floorI z) (ease₃₂ y) (ease₃₂ z) ≡ noise3d₃₂ x y z
   unfolding betweenOf edge₃₂ noise3d₃₂ layer₃₂

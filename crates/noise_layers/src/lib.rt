@@ -31,7 +31,13 @@ fn edge_row(
     eases: &[f32],
     edges: &mut [f32],
 )
-    requires { ⌜ (0 < n) × (n ≤ 64) × (base ≤ 65536) × (to ≤ 65536) × (base + n ≤ length (now floors)) × (base + n ≤ length (now eases)) × (to + n ≤ length (now edges)) ⌝ }
+    requires { ⌜ (0 < n)
+        × (n ≤ 64)
+        × (base ≤ 65536)
+        × (to ≤ 65536)
+        × (base + n ≤ length (now floors))
+        × (base + n ≤ length (now eases))
+        × (to + n ≤ length (now edges)) ⌝ }
     ensures { λ _. ⌜ RowLaid to n (edgeAt iy iz base (now (floors .entry)) (now (eases .entry))) (now (edges .entry)) (now (edges .exit)) ⌝ }
 {
     let mut at = floors[base];

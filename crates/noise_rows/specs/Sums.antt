@@ -78,7 +78,8 @@ inSquare k fy base eases i = between₃₂ k (at eases (base + i)) fy
 unfoldable pub noiseAt : ℕ → List ℕ → List Float → Float → ℕ → Float
 noiseAt base floors eases v i = square₃₂ (toZ w32 (getD floors (base + i) 0)) (floorI v) (at eases (base + i)) (ease₃₂ v)
 
-pub noise-told : (base : ℕ) (floors : List ℕ) (eases : List Float) (v x : Float) (i : ℕ) → Tells floors eases (base + i) x → noiseAt base floors eases v i ≡ noise2d₃₂ x v
+pub noise-told : (base : ℕ) (floors : List ℕ) (eases : List Float) (v x : Float) (i : ℕ) → Tells floors eases (base + i) x
+    → noiseAt base floors eases v i ≡ noise2d₃₂ x v
 unfolding noiseAt noise2d₃₂
 noise-told base floors eases v x i t = ap₂ (λ (u : ℤ) (e : Float). square₃₂ u (floorI v) e (ease₃₂ v)) (tells-floor t) (t .part)
 

@@ -139,7 +139,13 @@ pub fn fbm_row(
     eases: &[f32],
     vals: &mut [f32],
 )
-    requires { ⌜ (0 < octaves) × (octaves ≤ 8) × (n ≤ 64) × (base ≤ 32768) × (base + octaves * 64 ≤ length (now floors)) × (base + octaves * 64 ≤ length (now eases)) × (n ≤ length (now vals)) ⌝ }
+    requires { ⌜ (0 < octaves)
+        × (octaves ≤ 8)
+        × (n ≤ 64)
+        × (base ≤ 32768)
+        × (base + octaves * 64 ≤ length (now floors))
+        × (base + octaves * 64 ≤ length (now eases))
+        × (n ≤ length (now vals)) ⌝ }
     ensures { λ _. ⌜ Summed y octaves base n (now (floors .entry)) (now (eases .entry)) (now (vals .exit)) ⌝ }
 {
     clear(n, vals);

@@ -63,7 +63,8 @@ pub fn put_separated(out: &mut [u8], at: usize, x: usize, n: u64) -> usize
 // The first line of an opened map (SCOPE 11.2): OK, whole lines, active edits, non-air count, trailing bytes.
 pub fn put_opened(out: &mut [u8], lines: usize, active: usize, count: u32, trailing: usize) -> usize
     requires { ⌜ 87 ≤ length (now out) ⌝ }
-    ensures { λ r. ⌜ Appended (now (out .entry)) 0 (okText lines active count trailing) (now (out .exit)) r × (length (okText lines active count trailing) ≤ 87) ⌝ }
+    ensures { λ r. ⌜ Appended (now (out .entry)) 0 (okText lines active count trailing) (now (out .exit)) r
+        × (length (okText lines active count trailing) ≤ 87) ⌝ }
 {
     let a = put_text(out, 0, b"OK");
     let b = put_field(out, a, lines as u64);

@@ -157,7 +157,8 @@ line-then size d ds p m b c z q h later g =
     }
 
 line-or : (size : ℕ) (d : Line) (ds : List Line) (p : AllLineOk size (d ∷ ds)) (m : Model) (b : Active) → modelSize m ≡ size → (o : Option Active)
-    → afterLine (m .active) d ≡ o → onSome (λ c. afterAll c ds) o ≡ some b → length (m .bytes) + length (ended (saidText d) ++ join (map saidText ds)) ≤ m .borrowed
+    → afterLine (m .active) d ≡ o → onSome (λ c. afterAll c ds) o ≡ some b
+    → length (m .bytes) + length (ended (saidText d) ++ join (map saidText ds)) ≤ m .borrowed
     → Later size ds (p .1) → Written m (callsOf size (d ∷ ds) p) b (ended (saidText d) ++ join (map saidText ds))
 line-or size d ds p m b z none a q h later = never b q
 line-or size d ds p m b z (some c) a q h later =

@@ -66,7 +66,8 @@ after-ran (suc n) (form k o l p) = after-step _ _ n k o (after n p) l (after-ran
 -- ---- the fresh session
 
 module _ (f : First) where
-  start : Fresher (f .config) (f .place) (now (f .cells)) (now (f .journal)) (sessionFreshDoes (f .config) (f .place) (now (f .cells)) (now (f .journal))) (f .session)
+  start : Fresher (f .config) (f .place) (now (f .cells)) (now (f .journal)) (sessionFreshDoes (f .config) (f .place) (now (f .cells)) (now (f .journal)))
+      (f .session)
   start = fresh-holds (f .config) (f .place) (now (f .cells)) (now (f .journal)) (f .session) (sym (ap (λ (b : Begun). b .answer) (f .gives)))
 
   holds : Holds (model f) (began f)
