@@ -2,7 +2,7 @@
 use mathlib.Core.Bool.{Bool, _&&_, _||_}
 use lib.IntN.{ℤ}
 use lib.Ieee.{Float, lt}
-use Rattle.num.specs.Num.{nearest, abs₃₂, clamp₃₂}
+use Rattle.num_core.specs.Num.{nearest, abs₃₂, clamp₃₂}
 use Rattle.noise.specs.Noise.{fbm2d₃₂, fbm3d₃₂, noise2d₃₂}
 use Rattle.column.specs.Floats.{_+f_, _-f_, _*f_, _/f_, nat, real, square}
 

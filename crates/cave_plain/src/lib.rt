@@ -5,9 +5,9 @@ ghost use Rattle.cave_plain.specs.Caves.{spaghettiCave, largeCavern, rav
 use noise::fbm2d;
 use noise::fbm3d;
 use noise::noise2d;
-use num::float::abs;
-use num::float::clamp;
-use num::float::of_i32;
+use num_core::float::abs;
+use num_core::float::clamp;
+use num_core::float::of_i32;
 
 // Two noise fields, carved where both are near their middle.
 fn spaghetti(x: f32, y: f32, z: f32) -> bool

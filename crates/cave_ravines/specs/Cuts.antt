@@ -7,7 +7,7 @@ use native.Mathlib.Omega.{arith}
 use lib.IntN.{pos, _+ℤ_}
 use lib.Ieee.{Float, binary32, mul}
 use lib.ListN.{length, getD}
-use Rattle.num.specs.Num.{nearest}
+use Rattle.num_core.specs.Num.{nearest}
 use Rattle.noise.specs.Noise.{fbm2d₃₂}
 use Rattle.column.specs.Floats.{_*f_, real}
 use Rattle.noise_tables.specs.Row.{at, Flags}

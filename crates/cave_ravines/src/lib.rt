@@ -13,7 +13,7 @@ use ground_cell::world::Frame;
 use ground_cell::world::along;
 use noise_rows::fbm_row;
 use noise_tables::PLACES;
-use num::float::of_i32;
+use num_core::float::of_i32;
 
 fn cut_row(f: Frame, z: f32, vals: &[f32], cuts: &mut [bool])
     requires { ⌜ Near f × (f .size ≤ length (now vals)) × (f .size ≤ length (now cuts)) ⌝ }

@@ -6,7 +6,7 @@ use Prim.Native.Nat.{ℕ, _+_, _*_, _<_}
 use lib.IntN.{pos, _+ℤ_}
 use lib.Ieee.{Float, lt}
 use lib.ListN.{getD}
-use Rattle.num.specs.Num.{nearest, clamp₃₂}
+use Rattle.num_core.specs.Num.{nearest, clamp₃₂}
 use Rattle.column.specs.Floats.{_+f_, _-f_, _*f_, _/f_, nat, real, square}
 use Rattle.noise_tables.specs.Row.{at}
 use Rattle.noise_layers.specs.Layers.{octaveAt}

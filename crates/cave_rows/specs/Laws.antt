@@ -6,7 +6,7 @@ use Prim.Native.Nat.{ℕ, _+_, _*_, _<_}
 use native.Mathlib.Omega.{arith}
 use lib.IntN.{ℤ, pos, _+ℤ_}
 use lib.Ieee.{Float, lt, add, mul}
-use Rattle.num.specs.Num.{nearest, clamp₃₂}
+use Rattle.num_core.specs.Num.{nearest, clamp₃₂}
 use Rattle.basics.specs.Paths.{ap₃}
 use Rattle.noise.specs.Noise.{octave, octaves, fbm, along3, noise3d₃₂, fbm3d₃₂}
 use Rattle.column.specs.Floats.{_+f_, _-f_, _*f_, _/f_, nat, real, square}

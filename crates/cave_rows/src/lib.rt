@@ -23,8 +23,8 @@ use noise_layers::LAYER;
 use noise_layers::add_row;
 use noise_layers::layer_rows;
 use noise_tables::PLACES;
-use num::float::clamp;
-use num::float::of_i32;
+use num_core::float::clamp;
+use num_core::float::of_i32;
 
 // From a place of an octave to the same place two octaves on.
 const TWO_OCTAVES: usize = 2 * PLACES;

@@ -4,7 +4,7 @@ use Prim.Native.Nat.{ℕ, _-_}
 use lib.Dec.{ltb}
 use lib.IntN.{pos, _+ℤ_}
 use lib.Ieee.{Float}
-use Rattle.num.specs.Num.{nearest}
+use Rattle.num_core.specs.Num.{nearest}
 use Rattle.noise_tables.specs.Scaled.{scaledBy}
 use Rattle.column.specs.Floats.{_+f_, _-f_, _*f_, nat, real}
 use Rattle.ground_cell.specs.declared.world.Frame.{Frame}

@@ -13,7 +13,7 @@ use ground_cell::world::along;
 use noise_tables::PLACES;
 use noise_tables::note_octave;
 use noise_tables::scaled;
-use num::float::of_i32;
+use num_core::float::of_i32;
 
 // The first octave of each field along x but the first, whose is 0.
 pub const CAVE_B: usize = 3;

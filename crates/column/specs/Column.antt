@@ -2,7 +2,7 @@
 use mathlib.Core.Bool.{Bool, _&&_, cond}
 use lib.IntN.{ℤ, pos}
 use lib.Ieee.{Float, neg, le}
-use Rattle.num.specs.Num.{nearest, max₃₂, toI32}
+use Rattle.num_core.specs.Num.{nearest, max₃₂, toI32}
 unfoldable pub use Rattle.column_shapes.specs.Shapes.{offsetFbm₃₂, scaledFbm₃₂, smoothRamp₃₂, ridge₃₂, ridgesOf, ridges₃₂, plateau₃₂, continent₃₂}
 unfoldable pub use Rattle.column_shapes.specs.Shapes.{hillBoost₃₂, coldBoost₃₂, clampOf}
 use Rattle.column.specs.Floats.{_+f_, _-f_, _*f_, _/f_, nat, real}

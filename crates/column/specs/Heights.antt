@@ -7,7 +7,7 @@ use lib.Dec.{ltb}
 use lib.IntN.{ℤ, pos, negsuc, natAbs}
 use lib.Ieee.{Float}
 use borrow.Author.Tests.{ltb-false}
-use Rattle.num.specs.Num.{toI32}
+use Rattle.num_core.specs.Num.{toI32}
 use Rattle.column.specs.Column.{blend₃₂, clampOf, heightOf, columnAt, biomeAndHeight}
 use Rattle.column.specs.declared.Column.{Column}
 

@@ -12,9 +12,9 @@ use column_shapes::ridges;
 pub use column_shapes::ridges_of;
 use column_shapes::scaled_fbm;
 use column_shapes::smooth_ramp;
-use num::float::max;
-use num::float::of_i32;
-use num::float::to_i32;
+use num_core::float::max;
+use num_core::float::of_i32;
+use num_core::float::to_i32;
 
 pub enum Biome {
     Desert,

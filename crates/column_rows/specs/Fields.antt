@@ -4,7 +4,7 @@ use mathlib.Core.List.{List}
 use Prim.Native.Nat.{ℕ, zero, suc, _+_, _*_, _≤_, _<_}
 use native.Mathlib.Omega.{arith}
 use lib.Ieee.{Float, mul, neg}
-use Rattle.num.specs.Num.{nearest}
+use Rattle.num_core.specs.Num.{nearest}
 use Rattle.noise_tables.specs.Row.{Row}
 use Rattle.noise_tables.specs.Places.{Tells}
 use Rattle.noise_rows.specs.Sums.{freqAt, Lies, Summed}

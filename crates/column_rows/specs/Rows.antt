@@ -2,7 +2,7 @@
 use Prim.Native.Nat.{ℕ}
 use mathlib.Core.List.{List}
 use lib.Ieee.{Float, neg}
-use Rattle.num.specs.Num.{nearest}
+use Rattle.num_core.specs.Num.{nearest}
 use Rattle.noise_tables.specs.Row.{at, Row}
 use Rattle.column_tables.specs.Coords.{Tabled}
 use Rattle.column.specs.Floats.{_+f_, _*f_, nat}

@@ -4,7 +4,7 @@ use mathlib.Core.Bool.{cond}
 use lib.IntN.{ℤ}
 use lib.Signed.{ltZ}
 use lib.Ieee.{Float, lt}
-use Rattle.num.specs.Num.{nearest, abs₃₂, clamp₃₂, floor₃₂}
+use Rattle.num_core.specs.Num.{nearest, abs₃₂, clamp₃₂, floor₃₂}
 use Rattle.noise.specs.Noise.{fbm2d₃₂, smooth₃₂}
 use Rattle.column_shapes.specs.Floats.{_+f_, _-f_, _*f_, _/f_, nat, square}
 

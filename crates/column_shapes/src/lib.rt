@@ -4,9 +4,9 @@ ghost use mathlib.Core.Path.{_≡_};
 ghost use Rattle.column_shapes.specs.Shapes.{offsetFbm₃₂, scaledFbm₃₂, smoothRamp₃₂, ridge₃₂, ridgesOf, ridges₃₂};
 ghost use Rattle.column_shapes.specs.Shapes.{plateau₃₂, continent₃₂, hillBoost₃₂, coldBoost₃₂, clampOf};
 use noise::fbm2d;
-use num::float::abs;
-use num::float::clamp;
-use num::float::floor;
+use num_core::float::abs;
+use num_core::float::clamp;
+use num_core::float::floor;
 
 pub fn offset_fbm(x: f32, z: f32, scale: f32, dx: f32, dz: f32, octaves: u32) -> f32
     ensures { λ r. ⌜ r ≡ offsetFbm₃₂ x z scale dx dz octaves ⌝ }

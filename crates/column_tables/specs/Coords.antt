@@ -4,7 +4,7 @@ use mathlib.Core.Bool.{cond}
 use Prim.Native.Nat.{ℕ, _-_}
 use lib.Dec.{ltb}
 use lib.Ieee.{Float, neg}
-use Rattle.num.specs.Num.{nearest}
+use Rattle.num_core.specs.Num.{nearest}
 use Rattle.noise_tables.specs.Scaled.{scaledBy}
 use Rattle.noise_tables.specs.Row.{at}
 use Rattle.noise_tables.specs.Places.{Noted}

@@ -19,7 +19,7 @@ use ground_cell::world::Frame;
 use ground_cell::world::World;
 use ground_cell::world::along;
 use noise_tables::PLACES;
-use num::float::of_i32;
+use num_core::float::of_i32;
 
 // Notes the tops of row z.
 fn note_row(

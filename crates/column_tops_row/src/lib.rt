@@ -19,7 +19,7 @@ use ground_cell::world::Top;
 use ground_cell::world::World;
 use ground_cell::world::along;
 use ground_cell::world::biome_number;
-use num::float::of_i32;
+use num_core::float::of_i32;
 
 // The top of a column with this climate and relief.
 fn top_of(w: World, climate: Column, relief: Relief) -> Top

@@ -4,8 +4,8 @@ use mathlib.Core.Bool.{Bool, cond}
 use lib.IntN.{ℤ, pos, _-ℤ_}
 use lib.Signed.{ltZ}
 use lib.Ieee.{lt}
-use Rattle.num.specs.Wrap.{mulW}
-use Rattle.num.specs.Num.{nearest}
+use Rattle.num_core.specs.Wrap.{mulW}
+use Rattle.num_core.specs.Num.{nearest}
 use Rattle.noise.specs.Hash.{hash2₃₂}
 use Rattle.column.specs.declared.Biome.{Biome}
 use Rattle.column.specs.declared.Biome.the-variants.{Desert, Mountain, Forest, Plains}

@@ -3,7 +3,7 @@ ghost use mathlib.Core.Path.{_≡_};
 ghost use lib.IntN.{_-ℤ_};
 ghost use Rattle.ground_blocks.specs.Blocks.{desertBlock, snowPatch, mountainTop, mountainBlock, shoreBlock, forestBlock, plainsBlock, selectBlock};
 use column::Biome;
-use num::wrap::wrapping_mul;
+use num_core::wrap::wrapping_mul;
 
 pub const AIR: u16 = 0;
 

@@ -5,8 +5,8 @@ use mathlib.Core.Bool.{Bool, true, false, not, cond, false≢true}
 use lib.Dec.{ltb, eqb}
 use lib.IntN.{ℤ, pos, negsuc, _+ℤ_}
 use lib.Ieee.{Float, nan, inf, fin, binary32, round, units, odd, mul, div, ofInt, toSigned, low, emax, prec, up, down}
-use Rattle.num.specs.Num.{nearest, toI32}
-use Rattle.num.specs.Wrap.{low31}
+use Rattle.num_core.specs.Num.{nearest, toI32}
+use Rattle.num_core.specs.Wrap.{low31}
 use Rattle.noise.specs.Hash.{unit31, mix2, hash2₃₂}
 use Rattle.column.specs.Floats.{_*f_, nat}
 

@@ -16,9 +16,9 @@ use ground_cell::world::Top;
 use ground_cell::world::along;
 use ground_cell::world::local_y;
 use noise::hash2;
-use num::float::to_i32;
-use num::wrap::wrapping_add;
-use num::wrap::wrapping_mul;
+use num_core::float::to_i32;
+use num_core::wrap::wrapping_add;
+use num_core::wrap::wrapping_mul;
 
 // Whether a column is at least m away from the chunk's rim.
 pub fn inset(m: usize, size: usize, x: usize, z: usize) -> bool

@@ -4,7 +4,7 @@ use mathlib.Core.Logic.{⊎-elim}
 use Prim.Native.Nat.{ℕ, zero, suc, _-_, _≤_, _<_}
 use native.Mathlib.Omega.{arith}
 use lib.Ieee.{lt, div}
-use Rattle.num.specs.Num.{nearest}
+use Rattle.num_core.specs.Num.{nearest}
 use Rattle.ground_crown.specs.Crown.{Canopy, leafRadius}
 
 low-2 : (l : ℕ) → l < 2 → 1 ≡ leafRadius 2 3 l

@@ -8,8 +8,8 @@ use lib.ListN.{set, getD}
 use lib.Dec.{ltb, eqb}
 use lib.IntN.{ℤ, pos, _+ℤ_, _-ℤ_}
 use lib.Ieee.{Float, lt}
-use Rattle.num.specs.Wrap.{addW}
-use Rattle.num.specs.Num.{nearest}
+use Rattle.num_core.specs.Wrap.{addW}
+use Rattle.num_core.specs.Num.{nearest}
 use Rattle.noise.specs.Hash.{hash2₃₂}
 use Rattle.column.specs.Floats.{_/f_, nat}
 use Rattle.grid.specs.Cube.{cellIndex, inside, steps, tab}

@@ -10,7 +10,7 @@ use ground_cell::block::AIR;
 use ground_cell::block::LEAVES;
 use ground_cell::world::local_y;
 use noise::hash2;
-use num::wrap::wrapping_add;
+use num_core::wrap::wrapping_add;
 
 // A leaf, where there is air.
 fn leaf_at(cells: &mut [u16], size: usize, x: usize, y: usize, z: usize)

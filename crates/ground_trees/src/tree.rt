@@ -25,8 +25,8 @@ use ground_cell::world::along;
 use ground_cell::world::local_y;
 use ground_crown::canopy;
 use noise::hash2;
-use num::wrap::wrapping_add;
-use num::wrap::wrapping_mul;
+use num_core::wrap::wrapping_add;
+use num_core::wrap::wrapping_mul;
 
 fn grow(
     cells: &mut [u16],

@@ -11,7 +11,7 @@ use lib.Ieee.Fits.{down-pos}
 use lib.Ieee.Nearest.{div-mono}
 use lib.Ieee.Order.{round-mono}
 use borrow.Author.Tests.{ltb-true, ltb-false, eqb-true}
-use Rattle.num.specs.Num.{nearest, toI32}
+use Rattle.num_core.specs.Num.{nearest, toI32}
 use Rattle.column.specs.Floats.{_*f_, nat}
 use Rattle.ground_trees.specs.Signs.{rangeLength, wholePart, plus, mul-plus, sum-natural}
 use Rattle.ground_trees.specs.Features.{boulderHeight, boulderBlocks}

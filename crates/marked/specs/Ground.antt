@@ -6,7 +6,7 @@ use Prim.Native.Nat.{ℕ}
 use native.Mathlib.Omega.{arith}
 use lib.IntN.{ℤ, pos, negsuc, natAbs, _-ℤ_}
 use lib.Ieee.{Float, mul, div, lt, toSigned}
-use Rattle.num.specs.Num.{nearest, toI32}
+use Rattle.num_core.specs.Num.{nearest, toI32}
 use Rattle.column.specs.Column.{biomeAndHeight}
 use Rattle.column.specs.Floats.{nat}
 use Rattle.column.specs.Heights.{Range, height-range}

@@ -5,8 +5,8 @@ use mathlib.Core.List.{List, [], _∷_, _++_}
 use Prim.Native.Nat.{_-_, _^_}
 use lib.IntN.{pos, negsuc}
 use lib.Ieee.{nan, ofInt, div, neg, toSigned}
-use Rattle.num.specs.Wrap.{modZ, wrapW, mulW, shiftW}
-use Rattle.num.specs.Num.{nearest, floor₃₂, toI32}
+use Rattle.num_core.specs.Wrap.{modZ, wrapW, mulW, shiftW}
+use Rattle.num_core.specs.Num.{nearest, floor₃₂, toI32}
 use Rattle.noise.specs.Hash.{unit31}
 use Rattle.marked_listing.specs.Listing.{listingText, listingPrinted, listing-printed}
 use Rattle.marked.specs.Ground.{rows-d, rows-e, rows-f, rows-g, rows-h, rows-i, rows-j, holds-d, holds-e, holds-f, holds-g, holds-h, holds-i, holds-j}

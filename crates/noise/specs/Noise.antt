@@ -1,7 +1,7 @@
 -- Sums of octaves (SCOPE 3.7). Each `add`, `mul` and `div` below is one f32 operation of noise.rs (SCOPE 3.1). Assumes nothing.
 use Prim.Native.Nat.{ℕ, zero, suc}
 use lib.Ieee.{Float, binary32, add, mul, div}
-use Rattle.num.specs.Num.{nearest}
+use Rattle.num_core.specs.Num.{nearest}
 pub use Rattle.noise_lattice.specs.Noise.{num, next}
 unfoldable pub use Rattle.noise_lattice.specs.Noise.{smooth₃₂, lerp₃₂, ease₃₂, square₃₂, noise2d₃₂, layer₃₂, noise3d₃₂}
 

@@ -3,7 +3,7 @@ use Prim.Native.Nat.{ℕ}
 use lib.IntN.{ℤ, pos, negsuc}
 use mathlib.Core.Bool.{false}
 use lib.Ieee.{Float, fin, binary32, ofInt, div}
-use Rattle.num.specs.Wrap.{mulW, addW, foldW, low31}
+use Rattle.num_core.specs.Wrap.{mulW, addW, foldW, low31}
 
 -- SCOPE 3.4, two coordinates: the hash as an i32
 unfoldable pub mix2 : ℤ → ℤ → ℤ

@@ -1,11 +1,11 @@
 // The integer hashes of noise.rs.
 ghost use mathlib.Core.Path.{_≡_};
 ghost use Rattle.noise_hash.specs.Hash.{unit31, hash2₃₂, hash3₃₂};
-use num::wrap::fold_13;
-use num::wrap::fold_16;
-use num::wrap::low_bits;
-use num::wrap::wrapping_add;
-use num::wrap::wrapping_mul;
+use num_core::wrap::fold_13;
+use num_core::wrap::fold_16;
+use num_core::wrap::low_bits;
+use num_core::wrap::wrapping_add;
+use num_core::wrap::wrapping_mul;
 
 // A 31-bit number as a fraction. The Rust divides by 0x7fffffff as f32, which is 2^31; so 1.0 can come out. Each half of
 // n stands as digits behind a power of two: `high` is 2^8 + (n >> 16) / 2^15, `low` is 2^-8 + (n & 0xffff) / 2^31. To take

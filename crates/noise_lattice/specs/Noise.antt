@@ -2,8 +2,8 @@
 use Prim.Native.Nat.{ℕ}
 use lib.IntN.{ℤ, pos}
 use lib.Ieee.{Float, binary32, add, sub, mul, ofInt}
-use Rattle.num.specs.Wrap.{addW}
-use Rattle.num.specs.Num.{nearest, floorI}
+use Rattle.num_core.specs.Wrap.{addW}
+use Rattle.num_core.specs.Num.{nearest, floorI}
 use Rattle.noise_hash.specs.Hash.{hash2₃₂, hash3₃₂}
 
 -- a whole constant

@@ -3,8 +3,8 @@ ghost use mathlib.Core.Path.{_≡_};
 ghost use Rattle.noise_lattice.specs.Noise.{smooth₃₂, lerp₃₂, square₃₂, noise2d₃₂, layer₃₂, noise3d₃₂};
 use noise_hash::hash2;
 use noise_hash::hash3;
-use num::float::floor_part;
-use num::wrap::wrapping_add;
+use num_core::float::floor_part;
+use num_core::wrap::wrapping_add;
 
 // Cubic Hermite smoothstep.
 pub fn smooth(t: f32) -> f32

@@ -5,7 +5,7 @@ use Prim.Native.Nat.{ℕ, _+_, _*_, _<_}
 use lib.IntN.{ℤ}
 use lib.Ieee.{Float}
 use Rattle.basics.specs.Paths.{ap₄}
-use Rattle.num.specs.Num.{floorI}
+use Rattle.num_core.specs.Num.{floorI}
 use Rattle.noise.specs.Noise.{ease₃₂, layer₃₂, noise3d₃₂, next}
 use Rattle.noise_tables.specs.Row.{at}
 use Rattle.noise_tables.specs.Places.{Tells, tells-floor}

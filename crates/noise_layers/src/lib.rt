@@ -7,8 +7,8 @@ ghost use Rattle.noise_layers.specs.Layers.{edgeAt, RowLaid, OctaveRoom,
 use noise::hash3;
 use noise::lerp;
 use noise_tables::PLACES;
-use num::wrap::of_bits;
-use num::wrap::wrapping_add;
+use num_core::wrap::of_bits;
+use num_core::wrap::wrapping_add;
 
 // Where the rows of an octave's layer begin, behind the first, which is at iy and iz; and how long a layer is.
 const NEXT_Y: usize = PLACES;

@@ -3,7 +3,7 @@
 ghost use mathlib.Core.Path.{_≡_};
 ghost use Prim.Native.Nat.{_≤_, _<_};
 ghost use lib.ListN.{length};
-ghost use Rattle.num.specs.Num.{floorI};
+ghost use Rattle.num_core.specs.Num.{floorI};
 ghost use Rattle.noise.specs.Noise.{ease₃₂, square₃₂, noise2d₃₂};
 ghost use Rattle.noise_tables.specs.Row.{Row};
 ghost use Rattle.noise_rows.specs.Square.{squareOf};
@@ -15,7 +15,7 @@ use noise_rows::between;
 use noise_rows::clear;
 use noise_rows::divide;
 use noise_rows::square_at;
-use num::float::floor_part;
+use num_core::float::floor_part;
 
 // A noise and the square that it was read in.
 pub struct Step {

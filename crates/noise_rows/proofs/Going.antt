@@ -6,7 +6,7 @@ use native.Mathlib.Omega.{arith}
 use native.Mathlib.Numerals.{add-one}
 use lib.ListN.{length}
 use lib.Ieee.{Float, binary32, add, mul}
-use Rattle.num.specs.Num.{nearest}
+use Rattle.num_core.specs.Num.{nearest}
 use Rattle.noise.specs.Noise.{num, along2, fbm2d₃₂}
 use Rattle.noise_tables.specs.Row.{at, Row}
 use Rattle.noise_tables.specs.Places.{Tells}

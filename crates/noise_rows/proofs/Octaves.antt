@@ -5,7 +5,7 @@ use native.Mathlib.Omega.{arith}
 use mathlib.Core.List.{List}
 use lib.ListN.{length}
 use lib.Ieee.{Float, binary32, add, mul}
-use Rattle.num.specs.Num.{nearest}
+use Rattle.num_core.specs.Num.{nearest}
 use Rattle.noise.specs.Noise.{num, octaves, fbm}
 use Rattle.noise.proofs.Loop.{state, turn, end}
 use Rattle.noise_tables.specs.Row.{at, Row}

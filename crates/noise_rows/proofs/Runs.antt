@@ -10,7 +10,7 @@ use lib.Ieee.{Float}
 use mir.Syntax.{w32}
 use mir.Val.{toZ}
 use borrow.Author.Tests.{ltb-true, ltb-false}
-use Rattle.num.specs.Num.{floorI}
+use Rattle.num_core.specs.Num.{floorI}
 use Rattle.noise.specs.Noise.{ease₃₂, square₃₂}
 use Rattle.noise_tables.specs.Row.{at}
 use Rattle.noise_rows.specs.Square.{squareOf, between₃₂}

@@ -12,7 +12,7 @@ use lib.Ieee.{Float, nan, binary32, add, mul, div}
 use borrow.Author.Tests.{ltb-true, ltb-false}
 use mir.Syntax.{w32}
 use mir.Val.{toZ}
-use Rattle.num.specs.Num.{floorI}
+use Rattle.num_core.specs.Num.{floorI}
 use Rattle.noise.specs.Noise.{num, ease₃₂, square₃₂, noise2d₃₂, fbm2d₃₂, octaves}
 use Rattle.noise_tables.specs.Row.{at, Row}
 use Rattle.noise_tables.specs.Places.{Tells, tells-floor}

@@ -11,9 +11,9 @@ use noise::hash2;
 use noise::lerp;
 use noise::smooth;
 use noise_tables::PLACES;
-use num::float::floor_part;
-use num::wrap::of_bits;
-use num::wrap::wrapping_add;
+use num_core::float::floor_part;
+use num_core::wrap::of_bits;
+use num_core::wrap::wrapping_add;
 
 // A lattice square and the hashes of its corners: a and b at iy, c and d at iy + 1.
 pub struct Square {

@@ -11,8 +11,8 @@ use lib.Seq.{getD-set-same, getD-set-other}
 use borrow.Author.Tests.{ltb-true, ltb-false}
 use mir.Syntax.{w32}
 use mir.Val.{ofZ, toZ}
-use Rattle.num.specs.Num.{floorI}
-use Rattle.num.proofs.Floor.{floor-again}
+use Rattle.num_core.specs.Num.{floorI}
+use Rattle.num_core.proofs.Floor.{floor-again}
 use Rattle.noise.specs.Noise.{ease₃₂}
 use Rattle.noise_tables.specs.Row.{at}
 use Rattle.noise_tables.specs.declared.Entry.{Entry}

@@ -3,7 +3,7 @@ use mathlib.Core.Bool.{cond}
 use Prim.Native.Nat.{ℕ}
 use lib.Dec.{eqb}
 use lib.Ieee.{Float, binary32, mul}
-use Rattle.num.specs.Num.{nearest}
+use Rattle.num_core.specs.Num.{nearest}
 
 -- at octave k of a field: times 1, 2, 4 or 8
 unfoldable pub scaledBy : ℕ → Float → Float

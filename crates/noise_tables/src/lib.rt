@@ -7,8 +7,8 @@ ghost use Rattle.noise_tables.specs.Places.{entryOf, Told};
 ghost use Rattle.noise_tables.specs.Scaled.{scaledBy};
 use config::bounds::SIZE_MOST;
 use noise::smooth;
-use num::float::floor_part;
-use num::wrap::bits_of;
+use num_core::float::floor_part;
+use num_core::wrap::bits_of;
 
 // Places of a row, at most: it is as long as a chunk. The tables hold so many of each octave.
 pub const PLACES: usize = SIZE_MOST;

@@ -70,14 +70,14 @@ fn chunk(list: &[u32; 7]) {
     }
     let config = TerrainConfig {
         seed: list[0],
-        sea_level: num::wrap::of_bits(list[1]),
-        world_height_blocks: num::wrap::of_bits(list[2]),
+        sea_level: num_core::wrap::of_bits(list[1]),
+        world_height_blocks: num_core::wrap::of_bits(list[2]),
         chunk_size: size,
     };
     let pos = ChunkPos {
-        cx: num::wrap::of_bits(list[4]),
-        cy: num::wrap::of_bits(list[5]),
-        cz: num::wrap::of_bits(list[6]),
+        cx: num_core::wrap::of_bits(list[4]),
+        cy: num_core::wrap::of_bits(list[5]),
+        cz: num_core::wrap::of_bits(list[6]),
     };
     lay_in(config, pos, volume(size));
 }

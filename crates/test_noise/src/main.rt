@@ -39,9 +39,9 @@ fn row(text: &[u8], from: usize) -> usize {
     let mut list = [0u32; 7];
     let next = test_vectors::seven(text, from, &mut list);
     hashes(
-        num::wrap::of_bits(list[0]),
-        num::wrap::of_bits(list[1]),
-        num::wrap::of_bits(list[2]),
+        num_core::wrap::of_bits(list[0]),
+        num_core::wrap::of_bits(list[1]),
+        num_core::wrap::of_bits(list[2]),
     );
     noises(float(list[3]), float(list[4]), float(list[5]), list[6]);
     next

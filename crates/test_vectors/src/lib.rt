@@ -16,7 +16,7 @@ fn wide(byte: u8) -> u32 {
 
 // One more digit behind those already read.
 fn join(bits: u32, digit: u8) -> u32 {
-    std::num::wrapping_add_u32(num::wrap::wrapping_mul_u32(bits, 10), wide(digit) & 15)
+    std::num::wrapping_add_u32(num_core::wrap::wrapping_mul_u32(bits, 10), wide(digit) & 15)
 }
 
 // The digits that stand from a position on.
@@ -82,7 +82,7 @@ pub fn wide_id(id: u16) -> u32 {
 
 // One more id behind those of a checksum.
 fn add_id(sum: u32, id: u16) -> u32 {
-    std::num::wrapping_add_u32(num::wrap::wrapping_mul_u32(sum, 16777619), wide_id(id))
+    std::num::wrapping_add_u32(num_core::wrap::wrapping_mul_u32(sum, 16777619), wide_id(id))
 }
 
 // Each id is added to 16,777,619 times what came before, modulo 2^32.

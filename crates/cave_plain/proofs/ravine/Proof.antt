@@ -2,7 +2,7 @@
 use borrow.Author.Needs.{needs}
 use mathlib.Core.Path.{_∙_}
 use lib.Ieee.{ofBits, neg}
-use Rattle.num.specs.Num.{nearest}
+use Rattle.num_core.specs.Num.{nearest}
 use Rattle.cave_plain.proofs.Tests.{ravine-near, ravine-far}
 use Rattle.cave_plain.proofs.ravine.Statement.{statement}
 use Rattle.cave_plain.proofs.ravine.Tie as tie

@@ -1,7 +1,7 @@
 -- `cave_plain::ravine_with` meets its contract. Assumes nothing.
 use borrow.Author.Needs.{needs}
 use lib.Ieee.{ofBits}
-use Rattle.num.specs.Num.{nearest}
+use Rattle.num_core.specs.Num.{nearest}
 use Rattle.cave_plain.specs.Caves.{ravineWith}
 use Rattle.cave_plain.proofs.ravine_with.Statement.{statement}
 use Rattle.cave_plain.proofs.ravine_with.Tie as tie

@@ -1,7 +1,7 @@
 -- `cave_plain::spaghetti` meets its contract. Assumes nothing.
 use borrow.Author.Needs.{needs}
 use lib.Ieee.{ofBits, neg}
-use Rattle.num.specs.Num.{nearest}
+use Rattle.num_core.specs.Num.{nearest}
 use Rattle.cave_plain.specs.Caves.{spaghettiCave}
 use Rattle.cave_plain.proofs.spaghetti.Statement.{statement}
 use Rattle.cave_plain.proofs.spaghetti.Tie as tie

@@ -5,7 +5,7 @@ use lib.IntN.{ℤ, pos, _+ℤ_}
 use lib.Ieee.{binary32, ofInt, ofBits}
 use mir.Syntax.{w32}
 use Rattle.basics.specs.Words.{read, back}
-use Rattle.num.specs.Num.{nearest}
+use Rattle.num_core.specs.Num.{nearest}
 use Rattle.cave_ravines.specs.Cuts.{cuts-are}
 use Rattle.cave_ravines.proofs.note_cuts.Statement.{statement}
 use Rattle.cave_ravines.proofs.note_cuts.Tie as tie

@@ -1,7 +1,7 @@
 -- `cave_rows::hollow_at` meets its contract. Assumes nothing.
 use borrow.Author.Needs.{needs}
 use lib.Ieee.{ofBits, neg}
-use Rattle.num.specs.Num.{nearest}
+use Rattle.num_core.specs.Num.{nearest}
 use Rattle.cave_rows.specs.Fields.{hollowOf}
 use Rattle.cave_rows.proofs.hollow_at.Statement.{statement}
 use Rattle.cave_rows.proofs.hollow_at.Tie as tie

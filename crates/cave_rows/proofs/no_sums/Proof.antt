@@ -3,7 +3,7 @@ use Prim.Native.Nat.{ℕ}
 use native.Mathlib.Omega.{arith}
 use lib.Ieee.{nan, ofBits}
 use lib.ListN.{getD-replicate}
-use Rattle.num.specs.Num.{nearest}
+use Rattle.num_core.specs.Num.{nearest}
 use Rattle.noise_rows.specs.Sums.{zeroAt}
 use Rattle.cave_rows.proofs.no_sums.Statement.{statement}
 use Rattle.cave_rows.proofs.no_sums.Tie as tie

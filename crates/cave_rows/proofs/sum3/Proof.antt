@@ -4,7 +4,7 @@ use Prim.Native.Nat.{ℕ, _+_, _*_}
 use native.Mathlib.Omega.{arith}
 use lib.Ieee.{ofBits}
 use borrow.Author.Needs.{needs}
-use Rattle.num.specs.Num.{nearest}
+use Rattle.num_core.specs.Num.{nearest}
 use Rattle.column.specs.Floats.{nat}
 use Rattle.noise_rows.specs.Sums.{zeroAt}
 use Rattle.cave_rows.specs.Layers.{levelAt, depthAt}

@@ -2,7 +2,7 @@
 use borrow.Author.Needs.{needs}
 use lib.Ieee.{ofBits}
 use borrow.Author.Tests.{lt-ltb, le-ltb}
-use Rattle.num.specs.Num.{nearest}
+use Rattle.num_core.specs.Num.{nearest}
 use Rattle.cave_tables.specs.Coords.{zOf}
 use Rattle.cave_tables.proofs.z_at.Statement.{statement}
 use Rattle.cave_tables.proofs.z_at.Tie as tie

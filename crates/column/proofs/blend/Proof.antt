@@ -1,7 +1,7 @@
 -- `column::blend` meets its contract. Assumes nothing.
 use mathlib.Core.Path.{refl}
 use lib.Ieee.{ofBits, neg}
-use Rattle.num.specs.Num.{nearest}
+use Rattle.num_core.specs.Num.{nearest}
 use Rattle.column.specs.Column.{blend₃₂}
 use Rattle.column.proofs.blend.Statement.{statement}
 use Rattle.column.proofs.blend.Tie as tie

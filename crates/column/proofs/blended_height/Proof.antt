@@ -2,7 +2,7 @@
 use mathlib.Core.Path.{refl, ap, _∙_}
 use mir.Syntax.{w32}
 use mir.ValLaws.{toZ-ofZ}
-use Rattle.num.specs.Num.{toI32}
+use Rattle.num_core.specs.Num.{toI32}
 use Rattle.basics.specs.Words.{read}
 use Rattle.basics.specs.Paths.{ap₃}
 use Rattle.column.specs.Column.{clampOf, heightOf}

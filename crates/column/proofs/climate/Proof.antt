@@ -1,6 +1,6 @@
 -- `column::climate` meets its contract. Assumes nothing.
 use lib.Ieee.{ofBits, neg}
-use Rattle.num.specs.Num.{nearest}
+use Rattle.num_core.specs.Num.{nearest}
 use Rattle.column.specs.Column.{climateOf}
 use borrow.Author.Needs.{needs}
 use Rattle.column.proofs.climate.Statement.{statement}

@@ -1,6 +1,6 @@
 -- `column::heights` meets its contract. Assumes nothing.
 use lib.Ieee.{ofBits, neg}
-use Rattle.num.specs.Num.{nearest}
+use Rattle.num_core.specs.Num.{nearest}
 use Rattle.column.specs.Column.{heightsOf}
 use borrow.Author.Needs.{needs}
 use Rattle.column.proofs.heights.Statement.{statement}

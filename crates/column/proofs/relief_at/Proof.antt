@@ -1,6 +1,6 @@
 -- `column::relief_at` meets its contract. Assumes nothing.
 use lib.Ieee.{ofBits, neg}
-use Rattle.num.specs.Num.{nearest}
+use Rattle.num_core.specs.Num.{nearest}
 use Rattle.column.specs.Column.{reliefOf}
 use borrow.Author.Needs.{needs}
 use Rattle.column.proofs.relief_at.Statement.{statement}

@@ -1,6 +1,6 @@
 -- `column::weights` meets its contract. Assumes nothing.
 use lib.Ieee.{ofBits, neg}
-use Rattle.num.specs.Num.{nearest}
+use Rattle.num_core.specs.Num.{nearest}
 use Rattle.column.specs.Column.{desertWeight₃₂, mountainWeight₃₂, forestWeight₃₂, plainsWeight₃₂, weightsOf}
 use borrow.Author.Needs.{needs}
 use Rattle.column.proofs.weights.Statement.{statement}

@@ -1,7 +1,7 @@
 -- `column_read::climate_in` meets its contract. Assumes nothing.
 use mathlib.Core.Path.{refl}
 use lib.Ieee.{ofBits}
-use Rattle.num.specs.Num.{nearest}
+use Rattle.num_core.specs.Num.{nearest}
 use Rattle.column_read.specs.Read.{climateIn}
 use borrow.Author.Needs.{needs}
 use Rattle.column_read.proofs.climate_in.Statement.{statement}

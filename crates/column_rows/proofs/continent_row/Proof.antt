@@ -1,7 +1,7 @@
 -- `column_rows::continent_row` meets its contract. Assumes nothing.
 use mathlib.Core.Path.{ap, ap₂, _∙_}
 use lib.Ieee.{Float, ofBits, neg}
-use Rattle.num.specs.Num.{nearest}
+use Rattle.num_core.specs.Num.{nearest}
 use Rattle.noise.specs.Noise.{fbm2d₃₂}
 use Rattle.noise_places.specs.Places.{placesFbm}
 use Rattle.noise_tables.specs.Row.{at}

@@ -1,6 +1,6 @@
 -- `column_rows::height_rows` meets its contract. Assumes nothing.
 use lib.Ieee.{ofBits, neg}
-use Rattle.num.specs.Num.{nearest}
+use Rattle.num_core.specs.Num.{nearest}
 use Rattle.column_rows.specs.Fields.{detail-row, micro-row}
 use borrow.Author.Needs.{needs}
 use Rattle.column_rows.proofs.height_rows.Statement.{statement}

@@ -3,7 +3,7 @@ use mathlib.Core.Path.{ap}
 use Prim.Native.Nat.{_-_, _≤_}
 use native.Mathlib.Omega.{arith}
 use lib.Ieee.{Float, ofBits}
-use Rattle.num.specs.Num.{nearest}
+use Rattle.num_core.specs.Num.{nearest}
 use Rattle.column.specs.Floats.{_+f_, _*f_, nat}
 use Rattle.noise_tables.specs.Row.{at}
 use Rattle.column_rows.specs.Rows.{warpedX}

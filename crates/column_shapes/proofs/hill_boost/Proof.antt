@@ -1,7 +1,7 @@
 -- `column_shapes::hill_boost` meets its contract. Assumes nothing.
 use mathlib.Core.Path.{sym}
 use lib.Ieee.{ofBits}
-use Rattle.num.specs.Num.{nearest}
+use Rattle.num_core.specs.Num.{nearest}
 use Rattle.column_shapes.specs.Shapes.{hillBoost₃₂}
 use Rattle.column_shapes.proofs.hill_boost.Statement.{statement}
 use Rattle.column_shapes.proofs.hill_boost.Tie as tie

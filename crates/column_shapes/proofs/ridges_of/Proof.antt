@@ -1,6 +1,6 @@
 -- `column_shapes::ridges_of` meets its contract. Assumes nothing.
 use lib.Ieee.{ofBits, neg}
-use Rattle.num.specs.Num.{nearest}
+use Rattle.num_core.specs.Num.{nearest}
 use Rattle.column_shapes.specs.Shapes.{ridgesOf}
 use borrow.Author.Needs.{needs}
 use Rattle.column_shapes.proofs.ridges_of.Statement.{statement}

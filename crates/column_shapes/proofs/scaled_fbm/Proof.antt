@@ -1,6 +1,6 @@
 -- `column_shapes::scaled_fbm` meets its contract. Assumes nothing.
 use lib.Ieee.{ofBits, neg}
-use Rattle.num.specs.Num.{nearest}
+use Rattle.num_core.specs.Num.{nearest}
 use Rattle.column_shapes.specs.Shapes.{scaledFbm₃₂}
 use borrow.Author.Needs.{needs}
 use Rattle.column_shapes.proofs.scaled_fbm.Statement.{statement}

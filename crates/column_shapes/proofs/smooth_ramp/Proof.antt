@@ -1,6 +1,6 @@
 -- `column_shapes::smooth_ramp` meets its contract. Assumes nothing.
 use lib.Ieee.{ofBits, neg}
-use Rattle.num.specs.Num.{nearest}
+use Rattle.num_core.specs.Num.{nearest}
 use Rattle.noise.specs.Noise.{smooth₃₂}
 use Rattle.column_shapes.specs.Shapes.{smoothRamp₃₂}
 use borrow.Author.Needs.{needs}

@@ -10,7 +10,7 @@ use mir.Syntax.{w32}
 use mir.Val.{SFits}
 use mir.ValLaws.{toZ-ofZ}
 use Rattle.basics.specs.Paths.{ap₃}
-use Rattle.num.specs.Num.{nearest}
+use Rattle.num_core.specs.Num.{nearest}
 use Rattle.column.specs.Floats.{_*f_, nat}
 use Rattle.config.specs.Limits.{Between}
 use Rattle.basics.specs.Integers.{one-less}

@@ -6,8 +6,8 @@ use lib.Ieee.{ofBits, lt}
 use mir.Syntax.{w32}
 use mir.ValLaws.{toZ-ofZ}
 use Rattle.basics.specs.Words.{read}
-use Rattle.num.specs.Num.{nearest}
-use Rattle.num.specs.Wrap.{mulW}
+use Rattle.num_core.specs.Num.{nearest}
+use Rattle.num_core.specs.Wrap.{mulW}
 use Rattle.noise.specs.Hash.{hash2₃₂}
 use Rattle.ground_blocks.specs.Blocks.{snowPatch}
 use Rattle.ground_blocks.proofs.snow_patch.Statement.{statement}

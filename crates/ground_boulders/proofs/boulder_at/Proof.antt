@@ -5,7 +5,7 @@ use Prim.Native.Nat.{ℕ, _+_}
 use lib.IntN.{ℤ}
 use lib.Ieee.{ofBits}
 use borrow.Author.Tests.{eq-eqb, ne-eqb}
-use Rattle.num.specs.Num.{nearest}
+use Rattle.num_core.specs.Num.{nearest}
 use Rattle.grid.specs.Cube.{steps}
 use Rattle.basics.specs.Words.{back}
 use Rattle.ground_boulders.specs.Signs.{rangeLength, sum-natural}

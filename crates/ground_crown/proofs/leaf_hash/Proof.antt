@@ -4,7 +4,7 @@ use mathlib.Core.Path.{ap₂, _∙_}
 use mir.Syntax.{w32}
 use mir.ValLaws.{toZ-ofZ}
 use Rattle.basics.specs.Words.{read}
-use Rattle.num.specs.Wrap.{addW}
+use Rattle.num_core.specs.Wrap.{addW}
 use Rattle.noise.specs.Hash.{hash2₃₂}
 use Rattle.ground_crown.specs.Crown.{leafHash}
 use Rattle.ground_crown.proofs.leaf_hash.Statement.{statement}

@@ -10,7 +10,7 @@ use lib.Ieee.{ofBits, lt}
 use mir.Syntax.{w32}
 use mir.ValLaws.{toZ-ofZ}
 use borrow.Author.Tests.{lt-ltb, le-ltb, eq-eqb, ne-eqb}
-use Rattle.num.specs.Num.{nearest}
+use Rattle.num_core.specs.Num.{nearest}
 use Rattle.ground_crown.specs.Crown.{squareGap, leafHash, hasLeaf}
 use Rattle.ground_crown.proofs.leafy.Statement.{statement}
 use Rattle.ground_crown.proofs.leafy.Tie as tie

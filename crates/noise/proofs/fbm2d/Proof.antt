@@ -3,7 +3,7 @@ use mathlib.Core.Path.{_≡_, refl, sym, ap, _∙_}
 use Prim.Native.Nat.{_≤_, _-_}
 use native.Mathlib.Omega.{arith}
 use lib.Ieee.{ofBits}
-use Rattle.num.specs.Num.{nearest}
+use Rattle.num_core.specs.Num.{nearest}
 use Rattle.noise.specs.Noise.{octaves, fbm, along2, fbm2d₃₂}
 use Rattle.noise.proofs.Loop.{state, turn, end}
 use Rattle.noise.proofs.fbm2d.Statement.{statement}

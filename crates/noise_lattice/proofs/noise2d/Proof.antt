@@ -2,7 +2,7 @@
 use mathlib.Core.Path.{ap, _∙_}
 use lib.Ieee.{Float, binary32, sub}
 use Rattle.noise_lattice.specs.Noise.{smooth₃₂, ease₃₂, square₃₂, noise2d₃₂}
-use Rattle.num.proofs.Floor.{floor-again}
+use Rattle.num_core.proofs.Floor.{floor-again}
 use Rattle.basics.specs.Paths.{ap₄}
 use borrow.Author.Needs.{needs}
 use Rattle.noise_lattice.proofs.noise2d.Statement.{statement}

@@ -4,7 +4,7 @@ use lib.Ieee.{Float, binary32, sub}
 use mir.Syntax.{w32}
 use Rattle.noise_lattice.specs.Noise.{smooth₃₂, lerp₃₂, ease₃₂, layer₃₂, noise3d₃₂, next}
 use Rattle.basics.specs.Words.{read}
-use Rattle.num.proofs.Floor.{floor-again}
+use Rattle.num_core.proofs.Floor.{floor-again}
 use Rattle.basics.specs.Paths.{ap₃, ap₅}
 use borrow.Author.Needs.{needs}
 use Rattle.noise_lattice.proofs.noise3d.Statement.{statement}

@@ -1,7 +1,7 @@
 -- `smooth` meets its contract. Assumes nothing.
 use mathlib.Core.Path.{refl}
 use lib.Ieee.{ofBits}
-use Rattle.num.specs.Num.{nearest}
+use Rattle.num_core.specs.Num.{nearest}
 use Rattle.noise_lattice.specs.Noise.{smooth₃₂}
 use Rattle.noise_lattice.proofs.smooth.Statement.{statement}
 use Rattle.noise_lattice.proofs.smooth.Tie as tie

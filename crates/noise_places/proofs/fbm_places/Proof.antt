@@ -4,7 +4,7 @@ use Prim.Native.Nat.{_-_, _≤_}
 use native.Mathlib.Omega.{arith}
 use lib.ListN.{length}
 use lib.Ieee.{ofBits}
-use Rattle.num.specs.Num.{nearest}
+use Rattle.num_core.specs.Num.{nearest}
 use Rattle.noise.specs.Noise.{fbm2d₃₂}
 use Rattle.noise_places.specs.Places.{alongPlaces, placesFbm}
 use Rattle.noise_rows.proofs.Octaves.{Passed, passed-none, passed-more, passed-all}

@@ -2,8 +2,8 @@
 use mathlib.Core.Path.{ap, ap₂, _∙_}
 use lib.IntN.{ℤ}
 use lib.Ieee.{Float, binary32, sub}
-use Rattle.num.specs.Num.{floorI}
-use Rattle.num.proofs.Floor.{floor-again}
+use Rattle.num_core.specs.Num.{floorI}
+use Rattle.num_core.proofs.Floor.{floor-again}
 use Rattle.noise.specs.Noise.{smooth₃₂, ease₃₂, square₃₂, noise2d₃₂}
 use borrow.Author.Needs.{needs}
 use Rattle.noise_places.proofs.noise_at.Statement.{statement}

@@ -3,8 +3,8 @@ use mathlib.Core.Path.{_≡_, ap, ap₂, _∙_}
 use lib.Ieee.{Float, binary32, sub}
 use mir.Syntax.{w32}
 use mir.ValLaws.{toZ-ofZ}
-use Rattle.num.specs.Num.{floorI}
-use Rattle.num.proofs.Floor.{floor-again}
+use Rattle.num_core.specs.Num.{floorI}
+use Rattle.num_core.proofs.Floor.{floor-again}
 use Rattle.noise.specs.Noise.{smooth₃₂, ease₃₂, square₃₂}
 use Rattle.noise_rows.specs.Square.{squareOf, between₃₂}
 use Rattle.noise_rows.specs.declared.Square.{Square}

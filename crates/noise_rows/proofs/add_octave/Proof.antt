@@ -6,7 +6,7 @@ use lib.Ieee.{Float, binary32, mul, sub}
 use mir.Syntax.{w32}
 use borrow.Author.Needs.{needs}
 use Rattle.basics.specs.Words.{read}
-use Rattle.num.proofs.Floor.{floor-again}
+use Rattle.num_core.proofs.Floor.{floor-again}
 use Rattle.noise.specs.Noise.{smooth₃₂, ease₃₂}
 use Rattle.noise_rows.specs.Square.{squareOf}
 use Rattle.noise_rows.specs.Sums.{Added, added-none, added-run, inSquare, noiseAt}

@@ -4,7 +4,7 @@ use Prim.Native.Nat.{_-_, _≤_}
 use native.Mathlib.Omega.{arith}
 use lib.Ieee.{Float, binary32, add, mul, ofBits}
 use borrow.Author.Needs.{needs}
-use Rattle.num.specs.Num.{nearest}
+use Rattle.num_core.specs.Num.{nearest}
 use Rattle.noise_tables.specs.Row.{at}
 use Rattle.noise_rows.specs.Sums.{Added, added-none, added-one, inSquare}
 use Rattle.noise_rows.proofs.add_run.Statement.{statement}

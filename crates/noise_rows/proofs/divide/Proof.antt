@@ -3,7 +3,7 @@ use mathlib.Core.Path.{ap}
 use Prim.Native.Nat.{_-_, _≤_}
 use native.Mathlib.Omega.{arith}
 use lib.Ieee.{Float, binary32, div, ofBits}
-use Rattle.num.specs.Num.{nearest}
+use Rattle.num_core.specs.Num.{nearest}
 use Rattle.noise_rows.specs.Sums.{shareAt}
 use Rattle.noise_tables.proofs.Fill.{Filling, start, step, end}
 use Rattle.noise_rows.proofs.divide.Statement.{statement}

@@ -4,7 +4,7 @@ use Prim.Native.Nat.{_-_, _≤_, _<_}
 use native.Mathlib.Omega.{arith}
 use lib.ListN.{length}
 use lib.Ieee.{ofBits}
-use Rattle.num.specs.Num.{nearest}
+use Rattle.num_core.specs.Num.{nearest}
 use Rattle.noise_rows.proofs.Going.{Going, going-none, going-more, going-all}
 use Rattle.noise_rows.proofs.fbm_row.Statement.{statement}
 use Rattle.noise_rows.proofs.fbm_row.Tie as tie

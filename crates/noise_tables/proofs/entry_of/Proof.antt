@@ -4,7 +4,7 @@ use mathlib.Core.Path.{ap, ap₂, _∙_}
 use lib.Ieee.{Float, binary32, sub}
 use mir.Syntax.{w32}
 use mir.Val.{ofZ}
-use Rattle.num.proofs.Floor.{floor-again}
+use Rattle.num_core.proofs.Floor.{floor-again}
 use Rattle.noise.specs.Noise.{smooth₃₂, ease₃₂}
 use Rattle.noise_tables.specs.Places.{entryWith, entryOf}
 use Rattle.noise_tables.proofs.entry_of.Statement.{statement}

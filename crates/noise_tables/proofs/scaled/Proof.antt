@@ -3,7 +3,7 @@ use mathlib.Core.Path.{sym, ap}
 use Prim.Native.Nat.{ℕ}
 use lib.Ieee.{ofBits}
 use borrow.Author.Tests.{ne-eqb}
-use Rattle.num.specs.Num.{nearest}
+use Rattle.num_core.specs.Num.{nearest}
 use Rattle.noise_tables.specs.Scaled.{scaledBy}
 use Rattle.noise_tables.proofs.scaled.Statement.{statement}
 use Rattle.noise_tables.proofs.scaled.Tie as tie

@@ -10,7 +10,7 @@ use lib.Ieee.{ofBits}
 use mir.Syntax.{w32}
 use mir.ValLaws.{toZ-ofZ}
 use Rattle.basics.specs.Paths.{ap₄}
-use Rattle.num.specs.Num.{nearest}
+use Rattle.num_core.specs.Num.{nearest}
 use Rattle.basics.specs.Words.{back}
 use Rattle.ground_trees.specs.Signs.{sum-natural}
 use Rattle.ground_trees.specs.Features.{growOf, trunkHeight, plantOf}

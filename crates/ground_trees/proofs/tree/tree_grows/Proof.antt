@@ -1,7 +1,7 @@
 -- `ground_trees::tree::tree_grows` meets its contract. Assumes nothing.
 use lib.Ieee.{ofBits}
 use borrow.Author.Tests.{eq-eqb, ne-eqb}
-use Rattle.num.specs.Num.{nearest}
+use Rattle.num_core.specs.Num.{nearest}
 use Rattle.ground_trees.specs.Features.{treeGrows}
 use Rattle.ground_trees.proofs.tree.tree_grows.Statement.{statement}
 use Rattle.ground_trees.proofs.tree.tree_grows.Tie as tie

@@ -5,7 +5,7 @@ use lib.IntN.{ℤ, pos}
 use mir.Syntax.{w32}
 use mir.ValLaws.{toZ-ofZ}
 use Rattle.basics.specs.Words.{read}
-use Rattle.num.specs.Wrap.{addW}
+use Rattle.num_core.specs.Wrap.{addW}
 use Rattle.noise.specs.Hash.{hash2₃₂}
 use Rattle.ground_trees.specs.Features.{varietyOf}
 use Rattle.ground_trees.proofs.tree.variety.Statement.{statement}

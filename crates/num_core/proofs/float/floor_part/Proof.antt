@@ -1,4 +1,4 @@
--- `num::floor_part` meets its contract. Assumes nothing.
+-- `num_core::floor_part` meets its contract. Assumes nothing.
 use mathlib.Core.Path.{sym, subst, _∙_}
 use mathlib.Core.Bool.{true, false}
 use mathlib.Core.Logic.{⊎-elim}
@@ -9,9 +9,9 @@ use lib.Ieee.Casts.{toSigned-in}
 use mir.Syntax.{w32}
 use mir.ValLaws.{toZ-ofZ}
 use Rattle.basics.specs.Bools.{is-T, and-both}
-use Rattle.num.proofs.Floor.{Fast, fast-centre}
-use Rattle.num.proofs.float.floor_part.Statement.{statement}
-use Rattle.num.proofs.float.floor_part.Tie as tie
+use Rattle.num_core.proofs.Floor.{Fast, fast-centre}
+use Rattle.num_core.proofs.float.floor_part.Statement.{statement}
+use Rattle.num_core.proofs.float.floor_part.Tie as tie
 
 -- the float that is answered, by whichever arm it came
 near : (c : tie.After-row-known) → Fast (c .before .before .before .args .x) (c .before .if2 .f)

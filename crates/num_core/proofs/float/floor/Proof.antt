@@ -1,12 +1,12 @@
--- `num::floor` meets its contract. Assumes nothing.
+-- `num_core::floor` meets its contract. Assumes nothing.
 use mathlib.Core.Path.{_≡_, _∙_, subst}
 use mathlib.Core.Bool.{true, false}
 use lib.Ieee.{Float, lt, ofBits, neg}
 use Rattle.basics.specs.Bools.{is-T}
-use Rattle.num.proofs.Floor.{floor-part-is, floor-far-above, floor-far-below}
+use Rattle.num_core.proofs.Floor.{floor-part-is, floor-far-above, floor-far-below}
 use borrow.Author.Needs.{needs}
-use Rattle.num.proofs.float.floor.Statement.{statement}
-use Rattle.num.proofs.float.floor.Tie as tie
+use Rattle.num_core.proofs.float.floor.Statement.{statement}
+use Rattle.num_core.proofs.float.floor.Tie as tie
 
 far-part-requires : tie.Need-far-part-requires
 far-part-requires c κs = search needs

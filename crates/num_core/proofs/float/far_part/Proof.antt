@@ -1,4 +1,4 @@
--- `num::far_part` meets its contract. Assumes nothing.
+-- `num_core::far_part` meets its contract. Assumes nothing.
 use mathlib.Core.Path.{_≡_, _∙_, ap}
 use mathlib.Core.Bool.{false}
 use mathlib.Core.Logic.{⊎-elim}
@@ -9,12 +9,12 @@ use lib.Ieee.Casts.{toSigned-in}
 use mir.Syntax.{w32}
 use mir.Val.{ofZ, toZ}
 use mir.ValLaws.{toZ-ofZ}
-use Rattle.num.specs.Num.{floorI, toI32}
+use Rattle.num_core.specs.Num.{floorI, toI32}
 use Rattle.basics.specs.Bools.{is-T}
-use Rattle.num.proofs.Floor.{Fast, lift, sink, fast-above, fast-below, far-above, far-below}
+use Rattle.num_core.proofs.Floor.{Fast, lift, sink, fast-above, fast-below, far-above, far-below}
 use borrow.Author.Needs.{needs}
-use Rattle.num.proofs.float.far_part.Statement.{statement}
-use Rattle.num.proofs.float.far_part.Tie as tie
+use Rattle.num_core.proofs.float.far_part.Statement.{statement}
+use Rattle.num_core.proofs.float.far_part.Tie as tie
 
 answer : {x g : Float} → Fast x g → (toZ w32 (ofZ w32 (toSigned 31 g)) ≡ floorI x) × (g ≡ ofInt binary32 (floorI x))
 answer {x} {g} f = (toZ-ofZ w32 (toSigned 31 g) (record { sfits = toSigned-in 31 g }) ∙ f .int, f .float)

@@ -23,7 +23,7 @@ use mir.Syntax.{w32}
 use mir.ValLaws.{toZ-ofZ}
 use Rattle.basics.specs.Naturals.{minus-mul}
 use Rattle.basics.specs.Words.{again}
-use Rattle.num.specs.Num.{floorQ, floor₃₂, floorI, toI32}
+use Rattle.num_core.specs.Num.{floorQ, floor₃₂, floorI, toI32}
 use Rattle.num_float.proofs.Floats.{one-zero}
 use Rattle.basics.specs.Bools.{clash}
 

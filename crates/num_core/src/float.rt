@@ -1,7 +1,7 @@
 // floor, for every f32: NaN, infinities, both zeros and subnormals too; and the other numeric functions, of `num_float`.
 ghost use mathlib.Core.Path.{_≡_};
 ghost use lib.Ieee.{binary32, ofInt};
-ghost use Rattle.num.specs.Num.{floor₃₂, floorI};
+ghost use Rattle.num_core.specs.Num.{floor₃₂, floorI};
 pub use num_float::abs;
 pub use num_float::clamp;
 pub use num_float::max;
