@@ -1,4 +1,4 @@
--- Facts of f32 that the proofs of `num_float` and `num` cite: each is about one value and the tests that the code made of it. Assumes nothing.
+-- Facts of f32 that the proofs of `num_float` and `num_core` cite: each is about one value and the tests that the code made of it. Assumes nothing.
 use mathlib.Core.Path.{_≡_, refl, sym, ap, ap₂, subst}
 use Prim.Native.Nat.{ℕ, zero, suc, _+_, _*_, _/_, _^_, _≤_, _<_, min}
 use native.Mathlib.Nat.{mul-pos, zero-mul, pow-suc, le-div-iff-mul-le, div-lt-iff-lt-mul, zero-lt-suc}
