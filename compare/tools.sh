@@ -23,7 +23,7 @@ find_source() {
 find_tools() {
     command -v rustc > /dev/null || missing "no rustc: a Rust compiler is needed to build the original"
     command -v cargo > /dev/null || missing "no cargo: a Rust compiler is needed to build the original"
-    [ -n "${PRODUCT_LIB:-}" ] || command -v rt > /dev/null || missing "no rt: the product's archive is built by 'hosts/build'"
+    [ -n "${PERILLAHINGE_LIB:-}" ] || command -v rt > /dev/null || missing "no rt: the product's archive is built by 'hosts/build'"
 }
 
 # The log of a step, in a folder that is there.
@@ -38,17 +38,17 @@ failed() {
     missing "'$1' failed: $2 has it whole"
 }
 
-# Builds the archive, unless PRODUCT_LIB names one that is there already.
+# Builds the archive, unless PERILLAHINGE_LIB names one that is there already.
 build_product() {
-    if [ -z "${PRODUCT_LIB:-}" ]; then
+    if [ -z "${PERILLAHINGE_LIB:-}" ]; then
         local log
         log=$(log_of staticlib) || exit 2
         "$root/hosts/build" > "$log" 2>&1 || failed hosts/build "$log"
-        PRODUCT_LIB=$root/target/host/lib/libperillahinge.a
+        PERILLAHINGE_LIB=$root/target/host/lib/libperillahinge.a
     fi
-    [ -f "$PRODUCT_LIB" ] || missing "no archive '$PRODUCT_LIB'"
-    PRODUCT_LIB=$(realpath "$PRODUCT_LIB")
-    export PRODUCT_LIB
+    [ -f "$PERILLAHINGE_LIB" ] || missing "no archive '$PERILLAHINGE_LIB'"
+    PERILLAHINGE_LIB=$(realpath "$PERILLAHINGE_LIB")
+    export PERILLAHINGE_LIB
 }
 
 # Proves and builds the program that opens a map, unless OPENMAP names one that is there already.
@@ -67,7 +67,7 @@ build_openmap() {
 
 # Builds and runs the example hosts: 0 where all is right, 1 where a host failed, which is a difference.
 run_hosts() {
-    "$root/hosts/run" "$PRODUCT_LIB"
+    "$root/hosts/run" "$PERILLAHINGE_LIB"
     case $? in
     0) return 0 ;;
     1) return 1 ;;
@@ -81,8 +81,8 @@ build_driver() {
         missing "the driver does not build"
 }
 
-# Tests the driver itself: the model against the paper's example and the plain machine, and that
-# slips are found.
+# Tests the driver itself: the model against the scope's example and the reference model, that slips are found, and
+# that the C interface is declared as the header has it.
 test_driver() {
-    (cd "$compare" && env -u RUSTFLAGS cargo test --quiet --release --offline --test model)
+    (cd "$compare" && env -u RUSTFLAGS cargo test --quiet --release --offline --test model --test header)
 }

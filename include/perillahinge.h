@@ -44,7 +44,7 @@ enum pl_number {
     PL_FIRST_LINE = 11,     /* first line not of its form */
     PL_LATER_LINE = 12,     /* a later line not of its form, or one that may not stand there */
     PL_TALLY_LISTS = 13,    /* tally lists shorter than the ids present */
-    PL_RECORD = 21,         /* a record that cannot be, or a count that does not belong to these cells */
+    PL_RECORD = 21,         /* an invalid record, or a count that does not belong to these cells */
     PL_USED_BYTES = 22,     /* undo: the used bytes are not this record's journal */
     PL_NOTHING_ACTIVE = 23, /* undo: nothing is active */
     PL_FULL = 24,           /* no space for the line, or 256 edits active */
@@ -62,7 +62,8 @@ enum pl_limit {
 /* The six faces of a chunk. */
 enum pl_face { PL_POS_X = 0, PL_NEG_X = 1, PL_POS_Y = 2, PL_NEG_Y = 3, PL_POS_Z = 4, PL_NEG_Z = 5 };
 
-/* Settings: seed 0 to 65,535; sea level -4,096 to 4,096; world height 2 to 4,096; size 1 to 64. */
+/* Settings, within these limits: seed at most 65,535; sea_level from -4,096 to 4,096; world_height_blocks from 2 to
+ * 4,096; chunk_size from 1 to 64. */
 typedef struct pl_config {
     uint32_t seed;
     int32_t sea_level;
@@ -130,8 +131,9 @@ typedef char pl_answer_layout[sizeof(pl_answer) == 24 && offsetof(pl_answer, lin
 typedef char pl_batch_layout[sizeof(pl_batch_answer) == 32 && offsetof(pl_batch_answer, count) == 24 ? 1 : -1];
 typedef char pl_start_layout[sizeof(pl_start) == 88 && offsetof(pl_start, number) == 56 ? 1 : -1];
 
-/* ---- Sessions: edits are kept in a journal, lent with the cells. Cell (x, y, z) is at x + y * size + z * size *
- * size. A journal buffer has at most 32,768 bytes; an accepted call with a line writes behind the used bytes alone. */
+/* ---- Sessions: edits are kept in a journal, lent with the cells. The cell (x, y, z) is element x + size * (y +
+ * size * z). A journal buffer has at most 32,768 bytes; an accepted call with a line writes behind the used bytes
+ * alone. */
 
 /* Lays the ground into cells (size * size * size long) and writes the first line to the journal's start. No edit is
  * active; lines is 1. Refused: 9, 1 to 6, 24 (the first line does not fit). */

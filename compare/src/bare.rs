@@ -1,6 +1,21 @@
-//! The calls on bare cells, written from 01's text: what each answers and how it leaves the cells.
-//! Where a call is one that the original takes, chunk.rs holds this model to the original too.
-use crate::ffi::{BatchReply, Reply};
+//! The calls on bare cells, written from the scope (docs/SCOPE.md, section 5): what each answers and how it leaves
+//! the cells. Where a call is one that the original takes, chunk.rs holds this model to the original too.
+
+/// The answer of a call on cells: the refusal's number, 0 where it is accepted, and a value: the count, an id, the
+/// number of ids, or 0 and 1 for no and yes.
+#[derive(Clone, Copy, Debug, PartialEq)]
+pub struct Reply {
+    pub number: u32,
+    pub value: u32,
+}
+
+/// The answer of a batch: the refusal's number, the count, and how many groups were put.
+#[derive(Clone, Copy, Debug, PartialEq)]
+pub struct BatchReply {
+    pub number: u32,
+    pub count: u32,
+    pub written: usize,
+}
 
 fn accepted(value: u32) -> Reply {
     Reply { number: 0, value }
@@ -10,7 +25,7 @@ fn refused(number: u32) -> Reply {
     Reply { number, value: 0 }
 }
 
-/// "1 size", "6 cell slice .. not size³ long": the number, or 0.
+/// The tests that every call begins with: 1, then 6; or 0.
 fn shape(cells: &[u16], size: usize) -> u32 {
     if !(1..=64).contains(&size) {
         1
@@ -21,12 +36,12 @@ fn shape(cells: &[u16], size: usize) -> u32 {
     }
 }
 
-/// "Cell (x, y, z) is at x + y × size + z × size × size", or none outside the chunk.
+/// Where a cell lies in the slice (SCOPE 5.1), or none outside the chunk.
 fn place(size: usize, [x, y, z]: [usize; 3]) -> Option<usize> {
     (x < size && y < size && z < size).then(|| x + y * size + z * size * size)
 }
 
-/// "The non-air count is the number of nonzero cells."
+/// A chunk's count (SCOPE 5.2).
 pub fn non_air(cells: &[u16]) -> usize {
     cells.iter().filter(|&&id| id != 0).count()
 }
@@ -63,7 +78,7 @@ pub fn is_solid(cells: &[u16], size: usize) -> Reply {
     ask(cells, size, |id| id != 0)
 }
 
-/// "6 cell slice, or the one that replaces it, not size³ long."
+/// SCOPE 5.7: 6 for either slice.
 pub fn replace_blocks(cells: &mut [u16], size: usize, blocks: &[u16]) -> Reply {
     match (shape(cells, size), shape(blocks, size)) {
         (0, 0) => {
@@ -74,8 +89,7 @@ pub fn replace_blocks(cells: &mut [u16], size: usize, blocks: &[u16]) -> Reply {
     }
 }
 
-/// Lays an edit on as a whole, or refuses it with 21: "a count above size³, or one that the edit
-/// as a whole would move outside 0 to size³".
+/// Lays an edit on as a whole, or refuses it with 21 for its count (SCOPE 5.10).
 fn edit(cells: &mut [u16], count: u32, writes: &[(usize, u16)]) -> Result<u32, u32> {
     let mut after = cells.to_vec();
     for &(i, id) in writes {
@@ -94,7 +108,7 @@ fn reply(done: Result<u32, u32>) -> Reply {
     done.map_or_else(refused, accepted)
 }
 
-/// "tests 1, 6, 7 and then the count".
+/// SCOPE 5.4; in the order 1, 6, 7, 21.
 pub fn set(cells: &mut [u16], size: usize, count: u32, at: [usize; 3], id: u16) -> Reply {
     match (shape(cells, size), place(size, at)) {
         (0, Some(i)) => reply(edit(cells, count, &[(i, id)])),
@@ -103,7 +117,7 @@ pub fn set(cells: &mut [u16], size: usize, count: u32, at: [usize; 3], id: u16) 
     }
 }
 
-/// "A column clips its height to size; outside x or z it does nothing."
+/// SCOPE 5.5.
 pub fn fill_column(cells: &mut [u16], size: usize, count: u32, [x, z, height]: [usize; 3], id: u16) -> Reply {
     match shape(cells, size) {
         0 => {
@@ -117,8 +131,7 @@ pub fn fill_column(cells: &mut [u16], size: usize, count: u32, [x, z, height]: [
     }
 }
 
-/// "groups of four u32 (x, y, z, id), id modulo 65,536; one to three left over are ignored; groups
-/// outside are skipped; the answer is the number written."
+/// SCOPE 5.6.
 pub fn set_blocks(cells: &mut [u16], size: usize, count: u32, edits: &[u32]) -> BatchReply {
     let number = shape(cells, size);
     if number != 0 {
@@ -148,7 +161,7 @@ pub fn set_blocks(cells: &mut [u16], size: usize, count: u32, edits: &[u32]) -> 
     }
 }
 
-/// The ids present with their numbers of cells, ascending; 01 leaves the order free.
+/// The ids present with their numbers of cells, ascending; the product may list them in any order (SCOPE 5.9).
 pub fn tally(cells: &[u16]) -> Vec<(u16, u32)> {
     let mut found = std::collections::BTreeMap::new();
     for &id in cells.iter().filter(|&&id| id != 0) {
@@ -157,7 +170,7 @@ pub fn tally(cells: &[u16]) -> Vec<(u16, u32)> {
     found.into_iter().collect()
 }
 
-/// The refusal of a tally, 0 for none: 1, 6, then "13 tally lists shorter than the ids present".
+/// The refusal of a tally, 0 for none: 1, 6, then 13 where either list is too short.
 pub fn tally_refusal(cells: &[u16], size: usize, ids: usize, counts: usize) -> u32 {
     let present = tally(cells).len();
     match shape(cells, size) {

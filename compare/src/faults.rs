@@ -4,10 +4,9 @@ use crate::model;
 use crate::program::{input, longest};
 use crate::report::Report;
 use crate::rng::Rng;
-use std::ffi::c_void;
+use crate::system;
 use std::fs::{self, File};
 use std::io::{self, Seek, SeekFrom, Write};
-use std::os::fd::AsRawFd;
 use std::path::{Path, PathBuf};
 use std::process::{Command, Stdio};
 
@@ -107,10 +106,6 @@ fn refused_by_the_system(report: &mut Report, program: &Program) {
     }
 }
 
-extern "C" {
-    fn mmap(at: *mut c_void, size: usize, access: i32, kind: i32, file: i32, from: i64) -> *mut c_void;
-}
-
 /// A journal of which the system itself refuses to read more than is there: it lies in this process's memory, at the
 /// end of a page of a file that has no other page, and stands as standard input by way of /proc/self/mem.
 fn torn(journal: &[u8], file: &Path) -> io::Result<File> {
@@ -119,13 +114,10 @@ fn torn(journal: &[u8], file: &Path) -> io::Result<File> {
     page.extend(journal);
     fs::write(file, &page)?;
     let only = File::open(file)?;
-    // PROT_READ and MAP_SHARED are 1; two pages are mapped, and the second is behind the file's end.
-    let start = unsafe { mmap(std::ptr::null_mut(), 2 * PAGE, 1, 1, only.as_raw_fd(), 0) };
-    if start as isize == -1 {
-        return Err(io::Error::last_os_error());
-    }
+    // Two pages are mapped, and the second is behind the file's end.
+    let start = system::map(&only, 2 * PAGE)?;
     let mut memory = File::open("/proc/self/mem")?;
-    memory.seek(SeekFrom::Start((start as usize + PAGE - journal.len()) as u64))?;
+    memory.seek(SeekFrom::Start((start + PAGE - journal.len()) as u64))?;
     Ok(memory)
 }
 

@@ -1,12 +1,29 @@
 //! The ground, cell by cell: `TerrainGenerator::generate` against the product's `generate`.
-use crate::ffi::{self, Laid, Site};
+use crate::chunk::STALE;
+use crate::product;
 use crate::report::Report;
 use crate::rng::Rng;
 use crate::seen::Seen;
 use original::terrain::{TerrainConfig, TerrainGenerator};
 
-/// What lent cells hold before a call, so that a cell left as it came is seen.
-const STALE: u16 = 0xabcd;
+/// The settings and the place of a chunk: the seven numbers of its header.
+#[derive(Clone, Copy, Debug, PartialEq)]
+pub struct Site {
+    pub seed: u32,
+    pub sea_level: i32,
+    pub world_height_blocks: i32,
+    pub chunk_size: usize,
+    pub cx: i32,
+    pub cy: i32,
+    pub cz: i32,
+}
+
+/// What `generate` answers.
+#[derive(Clone, Copy, Debug, PartialEq)]
+pub enum Laid {
+    Count(u32),
+    Refused(u32),
+}
 
 /// The original's cells and their count.
 pub fn rust_ground(s: &Site) -> (Vec<u16>, u32) {
@@ -94,7 +111,7 @@ pub fn in_biome(rng: &mut Rng, s: Site, biome: original::terrain::Biome) -> Site
 fn chunk(report: &mut Report, s: &Site) -> Vec<u16> {
     let (cells, count) = rust_ground(s);
     let mut ours = vec![STALE; cells.len()];
-    let answer = ffi::generate(s, &mut ours);
+    let answer = product::generate(s, &mut ours);
     report.same(answer == Laid::Count(count), || {
         format!("{s:?}: Rust counts {count}, product answers {answer:?}")
     });
@@ -324,7 +341,7 @@ fn exact_ones(report: &mut Report) {
     }
 }
 
-/// 01's refusals 1 to 6 of `generate` in their order, 0 for none. Written from its text.
+/// The refusal of `generate`, 0 for none: 1 to 6 in this order (SCOPE 10.4).
 fn refusal(s: &Site, cells: usize) -> u32 {
     let size = s.chunk_size as i128;
     let off = |c: i32| {
@@ -405,12 +422,12 @@ fn edge_site(rng: &mut Rng) -> (Site, usize) {
     (s, cells)
 }
 
-/// One refusal: the number is the one of 01's order, and no cell changes.
+/// One refusal: the number is the first in the call's order, and no cell changes.
 fn refused(report: &mut Report, s: &Site, cells: usize, number: u32) {
     let mut lent = vec![STALE; cells];
-    let answer = ffi::generate(s, &mut lent);
+    let answer = product::generate(s, &mut lent);
     report.same(answer == Laid::Refused(number), || {
-        format!("{s:?}, {cells} cells: 01 refuses with {number}, product answers {answer:?}")
+        format!("{s:?}, {cells} cells: wanted refusal {number}, product answers {answer:?}")
     });
     report.same(lent.iter().all(|&c| c == STALE), || {
         format!("{s:?}, {cells} cells: a refused call wrote cells")
@@ -443,10 +460,6 @@ fn refusals(report: &mut Report, rng: &mut Rng) {
 }
 
 pub fn run(report: &mut Report) {
-    if !ffi::HAS_GROUND {
-        report.absent("ground");
-        return;
-    }
     let before = report.comparisons;
     let mut rng = Rng::new(2);
     let mut seen = Seen::default();

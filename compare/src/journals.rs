@@ -1,7 +1,7 @@
 //! Random journals, valid and damaged, and random calls of a session.
 use crate::chunk::{batch, coordinate, id};
-use crate::ffi::Site;
 use crate::ground::reach;
+use crate::ground::Site;
 use crate::model::{header, Call};
 use crate::rng::Rng;
 
@@ -106,7 +106,7 @@ fn line(rng: &mut Rng, size: usize, odd: bool) -> String {
     }
 }
 
-/// A valid journal: a U only where an edit stands, and at most 256 standing.
+/// A valid journal: a U only where an edit is active, and at most 256 active.
 pub fn valid(rng: &mut Rng) -> Vec<u8> {
     let s = site(rng);
     let mut text = header(&s) + "\n";
@@ -115,15 +115,15 @@ pub fn valid(rng: &mut Rng) -> Vec<u8> {
     } else {
         rng.below(25)
     };
-    let mut standing = 0;
+    let mut active = 0;
     for _ in 0..lines {
         let next = line(rng, s.chunk_size, false);
         let change = if next == "U" { -1 } else { 1 };
         let fits = text.len() + next.len() < 32_768;
-        if !(0..=256).contains(&(standing + change)) || !fits {
+        if !(0..=256).contains(&(active + change)) || !fits {
             continue;
         }
-        standing += change;
+        active += change;
         text.push_str(&next);
         text.push('\n');
     }
@@ -149,7 +149,7 @@ fn odd(rng: &mut Rng) -> Vec<u8> {
     text.into_bytes()
 }
 
-/// More edits than may stand.
+/// More edits than may be active.
 fn crowded(rng: &mut Rng) -> Vec<u8> {
     let s = site(rng);
     let mut text = header(&s) + "\n";

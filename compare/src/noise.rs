@@ -1,5 +1,5 @@
 //! The noise, bit for bit: hash2, hash3, noise2d, noise3d, fbm2d, fbm3d.
-use crate::ffi;
+use crate::product;
 use crate::report::Report;
 use crate::rng::Rng;
 use original::noise as rust;
@@ -146,14 +146,14 @@ fn float(report: &mut Report, name: &str, args: &[f32], more: u32, rust: f32, ou
 }
 
 pub fn hash2(report: &mut Report, x: i32, y: i32) {
-    let (a, b) = (rust::hash2(x, y), ffi::hash2(x, y));
+    let (a, b) = (rust::hash2(x, y), product::hash2(x, y));
     report.same(alike(a, b), || {
         format!("hash2({x}, {y}): Rust {a:e}, product {b:e}")
     });
 }
 
 pub fn hash3(report: &mut Report, x: i32, y: i32, z: i32) {
-    let (a, b) = (rust::hash3(x, y, z), ffi::hash3(x, y, z));
+    let (a, b) = (rust::hash3(x, y, z), product::hash3(x, y, z));
     report.same(alike(a, b), || {
         format!("hash3({x}, {y}, {z}): Rust {a:e}, product {b:e}")
     });
@@ -166,7 +166,7 @@ fn noise2d(report: &mut Report, x: f32, y: f32) {
         &[x, y],
         0,
         rust::noise2d(x, y),
-        ffi::noise2d(x, y),
+        product::noise2d(x, y),
     );
 }
 
@@ -177,7 +177,7 @@ fn noise3d(report: &mut Report, x: f32, y: f32, z: f32) {
         &[x, y, z],
         0,
         rust::noise3d(x, y, z),
-        ffi::noise3d(x, y, z),
+        product::noise3d(x, y, z),
     );
 }
 
@@ -188,7 +188,7 @@ fn fbm2d(report: &mut Report, x: f32, y: f32, octaves: u32) {
         &[x, y],
         octaves,
         rust::fbm2d(x, y, octaves),
-        ffi::fbm2d(x, y, octaves),
+        product::fbm2d(x, y, octaves),
     );
 }
 
@@ -199,7 +199,7 @@ fn fbm3d(report: &mut Report, x: f32, y: f32, z: f32, octaves: u32) {
         &[x, y, z],
         octaves,
         rust::fbm3d(x, y, z, octaves),
-        ffi::fbm3d(x, y, z, octaves),
+        product::fbm3d(x, y, z, octaves),
     );
 }
 

@@ -68,12 +68,12 @@ pub fn input(rng: &mut Rng, run: u64) -> Vec<u8> {
     journal
 }
 
-/// Runs the program, where the variable OPENMAP names it.
+/// Runs the program that the variable OPENMAP names.
 pub fn run(report: &mut Report) {
     let name = std::env::var("OPENMAP").unwrap_or_default();
     let program = Path::new(&name);
     if !program.is_file() {
-        report.absent("the program openmap");
+        report.fail(format!("OPENMAP names no program: '{name}'"));
         return;
     }
     let mut rng = Rng::new(9);

@@ -7,7 +7,6 @@ const SHOWN: u64 = 10;
 pub struct Report {
     pub comparisons: u64,
     pub differences: u64,
-    missing: Vec<String>,
     quiet: bool,
 }
 
@@ -39,19 +38,8 @@ impl Report {
         }
     }
 
-    /// Notes a part that the library does not have yet.
-    pub fn absent(&mut self, part: &str) {
-        self.missing.push(part.to_string());
-    }
-
     /// The last line of a run, and whether all was equal.
     pub fn close(&self) -> bool {
-        if !self.missing.is_empty() {
-            println!(
-                "not compared, as the library lacks it: {}",
-                self.missing.join(", ")
-            );
-        }
         println!(
             "compare: {} comparisons, {} differences",
             self.comparisons, self.differences

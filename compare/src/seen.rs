@@ -1,6 +1,6 @@
 //! What the compared chunks showed: a run that misses a biome, a cave or a feature proves less
 //! than it seems to, so it fails.
-use crate::ffi::Site;
+use crate::ground::Site;
 use crate::ground::{biome_at, height_at};
 use crate::report::Report;
 use original::block::{AIR, GRAVEL, LEAVES, LOG, SAND, SNOW, STONE, WATER};

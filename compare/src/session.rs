@@ -1,27 +1,16 @@
-//! Sessions, reopening and the plain machine: any library of these calls against model.rs. The
-//! calls are a trait, so that the tests can run the driver on the model itself and on broken ones.
+//! Sessions and reopening: any library of these calls against the model and the reference model of
+//! model.rs. The calls are a trait, so that the tests can run the driver on the model itself and on
+//! broken ones.
 use crate::chunk::STALE;
-use crate::ffi::Site;
+use crate::ground::Site;
 use crate::journals;
-use crate::model::{self, Call, Lent, Machine, Record, Refusal, Reopened};
+use crate::model::{self, Call, Lent, Record, Reference, Refusal, Reopened};
+use crate::product::Product;
 use crate::report::Report;
 use crate::rng::Rng;
 
-/// The parts of a session that a library can lack for now.
-#[derive(Clone, Copy, Debug, PartialEq)]
-pub enum Part {
-    Fresh,
-    Batch,
-    Undo,
-    Reopening,
-}
-
 /// The calls of a library. Each changes what is lent to it, as the library would.
 pub trait Calls {
-    /// Whether the library lacks a part: the model then stands in for it, and is not compared.
-    fn lacks(&self, _part: Part) -> bool {
-        false
-    }
     fn fresh(&self, site: &Site, cells: &mut [u16], journal: &mut [u8]) -> Result<Record, u32>;
     /// The record after the call, and how many groups a batch wrote; or the refusal's number and
     /// the record that came back with it.
@@ -32,7 +21,7 @@ pub trait Calls {
         held: usize,
         cells: &mut [u16],
     ) -> Result<(Record, usize, usize), Refusal>;
-    fn counted(&self, journal: &[u8], held: usize) -> usize;
+    fn committed(&self, journal: &[u8], held: usize) -> usize;
 }
 
 /// How much a run does.
@@ -50,20 +39,17 @@ pub const FULL: Amount = Amount {
     hostile: 120_000,
 };
 
-/// Reopens a journal on both sides: answer, record, lines, loose bytes and cells.
+/// Reopens a journal on both sides: answer, record, lines, trailing bytes and cells.
 fn reopening(report: &mut Report, calls: &impl Calls, journal: &[u8], held: usize, cells: usize) {
-    if calls.lacks(Part::Reopening) {
-        return;
-    }
     let mut ours = vec![STALE; cells];
     let answer = calls.reopen(journal, held, &mut ours);
     let wanted = model::reopen(journal, held, cells);
     let same = match (&answer, &wanted) {
-        (Ok((record, lines, loose)), Ok(w)) => {
+        (Ok((record, lines, trailing)), Ok(w)) => {
             *w == Reopened {
                 record: *record,
                 lines: *lines,
-                loose: *loose,
+                trailing: *trailing,
                 cells: ours.clone(),
             }
         }
@@ -72,14 +58,14 @@ fn reopening(report: &mut Report, calls: &impl Calls, journal: &[u8], held: usiz
     };
     report.same(same, || {
         let text = String::from_utf8_lossy(&journal[..journal.len().min(300)]).into_owned();
-        let said = wanted.map(|w| (w.record, w.lines, w.loose));
+        let said = wanted.map(|w| (w.record, w.lines, w.trailing));
         format!("reopening {text:?}, {held} held, {cells} cells: wanted {said:?}, product {answer:?}")
     });
-    let part = model::counted(journal, held).len();
-    let got = calls.counted(journal, held);
+    let part = model::committed(journal, held).len();
+    let got = calls.committed(journal, held);
     report.same(got == part, || {
         format!(
-            "the part that counts of {} bytes, {held} held: wanted {part}, product {got}",
+            "the committed prefix of {} bytes, {held} held: wanted {part}, product {got}",
             journal.len()
         )
     });
@@ -97,9 +83,6 @@ fn cells_for(rng: &mut Rng, journal: &[u8]) -> usize {
 
 /// Valid and damaged journals. A refusal that was never met is a failure.
 fn journals(report: &mut Report, rng: &mut Rng, calls: &impl Calls, many: u64) {
-    if calls.lacks(Part::Reopening) {
-        return;
-    }
     let mut met = std::collections::BTreeMap::new();
     for _ in 0..many {
         let (journal, held) = journals::journal(rng);
@@ -126,9 +109,6 @@ fn started(
 ) -> Option<Lent> {
     let (mut ours, mut journal) = (vec![STALE; cells], vec![b'?'; length]);
     let wanted = model::fresh(site, &ours, &journal);
-    if calls.lacks(Part::Fresh) {
-        return wanted.ok();
-    }
     let answer = calls.fresh(site, &mut ours, &mut journal);
     let kept = (vec![STALE; cells], vec![b'?'; length]);
     let same = match (&answer, &wanted) {
@@ -155,14 +135,6 @@ fn started(
 fn called(report: &mut Report, calls: &impl Calls, lent: &Lent, call: &Call) -> (Lent, u32) {
     let wanted = model::call(lent, call);
     let mut ours = lent.clone();
-    let absent = match call {
-        Call::Batch(_) => calls.lacks(Part::Batch),
-        Call::Undo => calls.lacks(Part::Undo),
-        _ => false,
-    };
-    if absent {
-        return wanted.map_or_else(|number| (ours, number), |(next, _)| (next, 0));
-    }
     let answer = calls.call(&mut ours, call);
     let (left, said) = match wanted {
         Ok((next, written)) => (next, Ok(written)),
@@ -177,41 +149,35 @@ fn called(report: &mut Report, calls: &impl Calls, lent: &Lent, call: &Call) -> 
     (left, said.err().unwrap_or(0))
 }
 
-/// A session of random calls, held to the plain machine after each. Answers the machine and the
-/// session as it ended.
-fn session(
-    report: &mut Report,
-    rng: &mut Rng,
-    calls: &impl Calls,
-    many: u64,
-) -> Option<(Machine, Lent, Vec<Lent>)> {
+/// A session of random calls, held to the reference model after each. Answers the session's states, the fresh one
+/// first.
+fn session(report: &mut Report, rng: &mut Rng, calls: &impl Calls, many: u64) -> Option<Vec<Lent>> {
     let site = journals::site(rng);
     let length = rng.pick(&[60, 120, 400, 2000, 32_768]);
     let mut lent = started(report, calls, &site, site.chunk_size.pow(3), length)?;
-    let mut machine = Machine::new(site, length);
+    let mut reference = Reference::new(site, length);
     let mut states = vec![lent.clone()];
     for _ in 0..many {
         let call = journals::call(rng, site.chunk_size);
         let (left, number) = called(report, calls, &lent, &call);
-        let refused = machine.call(&call);
+        let refused = reference.call(&call);
         lent = left;
         let r = &lent.record;
         let same = number == refused
-            && lent.cells == machine.cells()
-            && lent.journal.get(..r.used) == Some(&machine.bytes[..])
-            && r.standing == machine.standing.len()
+            && lent.cells == reference.cells()
+            && lent.journal.get(..r.used) == Some(&reference.bytes[..])
+            && r.active == reference.active.len()
             && r.count as usize == crate::bare::non_air(&lent.cells);
         report.same(same, || {
-            format!("{call:?}: the session is not the plain machine, {number} against {refused}")
+            format!("{call:?}: the session is not the reference model, {number} against {refused}")
         });
         states.push(lent.clone());
     }
-    Some((machine, lent, states))
+    Some(states)
 }
 
-/// A session cut at every byte, with tails of zeros: the reopened one has the cells, count, used
-/// bytes and standing edits of the first one after the last call whose line stands whole, and goes
-/// on with the same answers.
+/// A session cut at every byte, with tails of zeros (SCOPE 9.2): the reopened one has the cells, count, used bytes
+/// and active edits that the first one had after the last call whose line is whole, and goes on with the same answers.
 fn cuts(report: &mut Report, rng: &mut Rng, calls: &impl Calls, states: &[Lent]) {
     let last = states.last().expect("a session has a state");
     for q in 0..=last.record.used {
@@ -316,7 +282,7 @@ fn spoil(rng: &mut Rng, lent: &mut Lent) {
                 usize::MAX,
             ])
         }
-        8 => r.standing = rng.pick(&[0, 1, r.standing + 1, 255, 256, 257, usize::MAX]),
+        8 => r.active = rng.pick(&[0, 1, r.active + 1, 255, 256, 257, usize::MAX]),
         9 => lent.cells.iter_mut().for_each(|c| *c = rng.below(2) as u16),
         10 => drop(lent.cells.pop()),
         11 => lent.journal.resize(rng.pick(&[0, 1, 40, 32_768, 32_769]), b'U'),
@@ -337,7 +303,7 @@ fn hostile(report: &mut Report, rng: &mut Rng, calls: &impl Calls, many: u64) {
     while done < many {
         let mut quiet = Report::quiet();
         let turns = rng.below(12);
-        let Some((_, lent, _)) = session(&mut quiet, rng, calls, turns) else {
+        let Some(lent) = session(&mut quiet, rng, calls, turns).and_then(|mut states| states.pop()) else {
             continue;
         };
         for _ in 0..20 {
@@ -362,7 +328,7 @@ fn fresh_limits(report: &mut Report, rng: &mut Rng, calls: &impl Calls) {
             site,
             count: 1,
             used: 1,
-            standing: 1,
+            active: 1,
         };
         let mut lent = Lent {
             record,
@@ -387,29 +353,20 @@ pub fn compare(report: &mut Report, calls: &impl Calls, amount: &Amount) {
         session(report, &mut rng, calls, turns);
     }
     let mut cut = 0;
-    while cut < amount.cut_sessions && !calls.lacks(Part::Reopening) {
+    while cut < amount.cut_sessions {
         let turns = rng.below(14);
-        if let Some((_, _, states)) = session(report, &mut rng, calls, turns) {
+        if let Some(states) = session(report, &mut rng, calls, turns) {
             cuts(report, &mut rng, calls, &states);
             cut += 1;
         }
     }
     hostile(report, &mut rng, calls, amount.hostile);
-    for part in [Part::Fresh, Part::Batch, Part::Undo, Part::Reopening] {
-        if calls.lacks(part) {
-            report.absent(&format!("session: {part:?}"));
-        }
-    }
     println!(
         "sessions: {} comparisons, {cut} sessions cut at every byte",
         report.comparisons - before
     );
 }
 
-/// The product, where the library has its session.
 pub fn run(report: &mut Report) {
-    #[cfg(has_session)]
-    compare(report, &crate::ffi::session::Product, &FULL);
-    #[cfg(not(has_session))]
-    report.absent("sessions and journals");
+    compare(report, &Product, &FULL);
 }

@@ -1,12 +1,13 @@
-//! How much stack each call takes: it runs on a thread whose stack was painted before, and what is
-//! painted over afterwards counts.
+//! How much stack each call takes: it runs on a thread whose stack was painted before, and how far the
+//! paint is gone afterwards counts.
 use crate::chunk;
-use crate::ffi::{self, Site};
+use crate::ground::Site;
 use crate::model::{Call, Lent};
+use crate::product::{self, Product};
 use crate::report::Report;
 use crate::rng::Rng;
 use crate::session::Calls;
-use std::ffi::c_void;
+use crate::system;
 use std::hint::black_box;
 
 /// What a host may give a thread, and what a call may take of it.
@@ -15,47 +16,6 @@ const MOST: usize = 64 * 1024;
 
 /// Below the thread's stack more is painted, so that a call that takes too much is seen, not lost.
 const BELOW: usize = 1024 * 1024;
-const PAINT: u8 = 0xa5;
-
-/// As large as the C library's own on x86-64.
-#[repr(C)]
-struct Attributes([u64; 7]);
-
-extern "C" {
-    fn pthread_attr_init(attributes: *mut Attributes) -> i32;
-    fn pthread_attr_setstack(attributes: *mut Attributes, stack: *mut c_void, size: usize) -> i32;
-    fn pthread_create(
-        thread: *mut u64,
-        attributes: *const Attributes,
-        start: extern "C" fn(*mut c_void) -> *mut c_void,
-        argument: *mut c_void,
-    ) -> i32;
-    fn pthread_join(thread: u64, answer: *mut *mut c_void) -> i32;
-}
-
-extern "C" fn start(argument: *mut c_void) -> *mut c_void {
-    let work = unsafe { &mut *(argument as *mut &mut dyn FnMut()) };
-    work();
-    std::ptr::null_mut()
-}
-
-/// The bytes that a thread takes for a piece of work, its own beginning included.
-fn taken(mut work: &mut dyn FnMut()) -> usize {
-    let mut stack = vec![[PAINT; 64]; (BELOW + LENT) / 64];
-    let bytes = stack.as_mut_ptr() as *mut u8;
-    let mut attributes = Attributes([0; 7]);
-    let mut thread = 0;
-    unsafe {
-        assert_eq!(pthread_attr_init(&mut attributes), 0);
-        let lowest = bytes.add(BELOW + (64 - (bytes as usize) % 64) % 64) as *mut c_void;
-        assert_eq!(pthread_attr_setstack(&mut attributes, lowest, LENT - 64), 0);
-        let argument = &mut work as *mut &mut dyn FnMut() as *mut c_void;
-        assert_eq!(pthread_create(&mut thread, &attributes, start, argument), 0);
-        assert_eq!(pthread_join(thread, std::ptr::null_mut()), 0);
-    }
-    let painted = stack.iter().flatten().take_while(|&&b| b == PAINT).count();
-    BELOW + LENT - painted
-}
 
 /// Keeps a compiler from dropping the work.
 fn keep<T>(answer: T) {
@@ -110,10 +70,9 @@ pub fn site() -> Site {
     }
 }
 
-/// Measures each call at size 64, and prints the greatest.
-pub fn run(report: &mut Report) {
-    let product = &ffi::session::Product;
-    let long = long_session(product, site());
+/// How many bytes each call takes at size 64, the greatest first.
+pub fn measure(report: &mut Report) -> Vec<(&'static str, usize)> {
+    let long = long_session(&Product, site());
     let mut cells = long.cells.clone();
     let blocks = long.cells.clone();
     let count = long.record.count;
@@ -129,66 +88,71 @@ pub fn run(report: &mut Report) {
     };
     let mut edits = [(); 4].map(|()| lent());
     let [set, column, batch, undo] = &mut edits;
-    let press = |lent: &mut Lent, call: &Call| keep(product.call(lent, call));
+    let press = |lent: &mut Lent, call: &Call| keep(Product.call(lent, call));
     let column_call = Call::Column {
         x: 3,
         z: 5,
         height: 64,
         id: 4,
     };
-    let none = taken(&mut || {});
     let mut all: Vec<(&str, usize)> = vec![];
-    let mut note = |name, work: &mut dyn FnMut()| all.push((name, taken(work).saturating_sub(none)));
-    note("generate", &mut || keep(ffi::generate(&site(), &mut cells)));
-    note("get", &mut || keep(ffi::chunk::get(&blocks, 64, [1, 2, 3])));
-    note("is_air", &mut || keep(ffi::chunk::is_air(&blocks, 64, [1, 2, 3])));
-    note("is_empty", &mut || keep(ffi::chunk::is_empty(&blocks, 64)));
-    note("is_solid", &mut || keep(ffi::chunk::is_solid(&blocks, 64)));
+    let mut note = |name, work: &mut dyn FnMut()| all.push((name, system::stack_taken(LENT, BELOW, work)));
+    note("generate", &mut || keep(product::generate(&site(), &mut cells)));
+    note("get", &mut || keep(product::get(&blocks, 64, [1, 2, 3])));
+    note("is_air", &mut || keep(product::is_air(&blocks, 64, [1, 2, 3])));
+    note("is_empty", &mut || keep(product::is_empty(&blocks, 64)));
+    note("is_solid", &mut || keep(product::is_solid(&blocks, 64)));
     note("replace_blocks", &mut || {
-        keep(ffi::chunk::replace_blocks(&mut cells, 64, &blocks))
+        keep(product::replace_blocks(&mut cells, 64, &blocks))
     });
     note("set", &mut || {
-        keep(ffi::chunk::set(&mut cells, 64, count, [1, 2, 3], 4))
+        keep(product::set(&mut cells, 64, count, [1, 2, 3], 4))
     });
     note("fill_column", &mut || {
-        keep(ffi::chunk::fill_column(&mut cells, 64, count, [1, 64, 3], 4))
+        keep(product::fill_column(&mut cells, 64, count, [1, 3, 64], 4))
     });
     note("set_blocks, 16 groups", &mut || {
-        keep(ffi::set_blocks(&mut cells, 64, count, &few))
+        keep(product::set_blocks(&mut cells, 64, count, &few))
     });
     note("set_blocks, thousands", &mut || {
-        keep(ffi::set_blocks(&mut cells, 64, count, &many))
+        keep(product::set_blocks(&mut cells, 64, count, &many))
     });
     note("extract_border", &mut || {
-        keep(ffi::extract_border(&blocks, 64, 0, &mut border))
+        keep(product::extract_border(&blocks, 64, 0, &mut border))
     });
     note("tally", &mut || {
-        keep(ffi::tally(&blocks, 64, &mut ids, &mut counts))
+        keep(product::tally(&blocks, 64, &mut ids, &mut counts))
     });
     note("session set", &mut || press(set, &Call::Set([1, 2, 3], 4)));
     note("session column", &mut || press(column, &column_call));
     note("session batch", &mut || press(batch, &Call::Batch(groups())));
     note("undo", &mut || press(undo, &Call::Undo));
     note("fresh session", &mut || {
-        keep(product.fresh(&site(), &mut cells, &mut journal))
+        keep(Product.fresh(&site(), &mut cells, &mut journal))
     });
     note("reopening", &mut || {
-        keep(product.reopen(&long.journal, long.record.used, &mut cells))
+        keep(Product.reopen(&long.journal, long.record.used, &mut cells))
     });
     note("committed prefix", &mut || {
-        keep(product.counted(&long.journal, long.record.used))
+        keep(Product.committed(&long.journal, long.record.used))
     });
-    for (name, bytes) in &all {
-        report.same(*bytes <= MOST, || {
-            format!("{name} takes {bytes} bytes of stack, above {MOST}")
-        });
-    }
     for (lent, name) in edits.iter().zip(["set", "column", "batch", "undo"]) {
         report.same(lent.record.used > long.record.used, || {
             format!("the session's {name} was refused on the small stack")
         });
     }
     all.sort_by_key(|&(_, bytes)| std::cmp::Reverse(bytes));
+    all
+}
+
+/// Holds each call to what it may take, and prints the greatest.
+pub fn run(report: &mut Report) {
+    let all = measure(report);
+    for (name, bytes) in &all {
+        report.same(*bytes <= MOST, || {
+            format!("{name} takes {bytes} bytes of stack, above {MOST}")
+        });
+    }
     let text: Vec<String> = all
         .iter()
         .take(4)

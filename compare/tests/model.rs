@@ -1,8 +1,8 @@
-//! The model against 01's own example and against the plain machine, and the session driver on
-//! the model itself and on libraries with a slip each: it must find every one of them. The checks of
-//! failing reads and writes, likewise, on a program made of the model.
+//! The model against the scope's own example and against the reference model, and the session driver
+//! on the model itself and on libraries with a slip each: it must find every one of them. The checks
+//! of failing reads and writes, likewise, on a program made of the model.
 use compare::faults::{self, Program};
-use compare::ffi::Site;
+use compare::ground::Site;
 use compare::model::{self, Call, Lent, Record, Refusal};
 use compare::report::Report;
 use compare::session::{compare, Amount, Calls};
@@ -20,7 +20,7 @@ const SMALL: Amount = Amount {
 enum Slip {
     None,
     FreshGroundOnReopening,
-    ReadsLooseLine,
+    ReadsCutLine,
     LinesFromZero,
     CountsOneByteShort,
     UndoKeepsCount,
@@ -56,7 +56,7 @@ impl Calls for Double {
     }
 
     fn call(&self, lent: &mut Lent, call: &Call) -> Result<usize, u32> {
-        if self.0 == Slip::EarlyFull && lent.record.standing == 5 && !matches!(call, Call::Undo) {
+        if self.0 == Slip::EarlyFull && lent.record.active == 5 && !matches!(call, Call::Undo) {
             return Err(24);
         }
         match model::call(lent, call) {
@@ -91,15 +91,15 @@ impl Calls for Double {
         cells: &mut [u16],
     ) -> Result<(Record, usize, usize), Refusal> {
         let mut text = journal.to_vec();
-        if self.0 == Slip::ReadsLooseLine && held < text.len() {
+        if self.0 == Slip::ReadsCutLine && held < text.len() {
             text[held] = b'\n';
             return self.opened(&text, held + 1, cells);
         }
         self.opened(&text, held, cells)
     }
 
-    fn counted(&self, journal: &[u8], held: usize) -> usize {
-        let part = model::counted(journal, held).len();
+    fn committed(&self, journal: &[u8], held: usize) -> usize {
+        let part = model::committed(journal, held).len();
         if self.0 == Slip::CountsOneByteShort {
             part.saturating_sub(1)
         } else {
@@ -125,7 +125,7 @@ impl Double {
             opened.cells = model::laid(&opened.record.site, &[]);
         }
         cells.copy_from_slice(&opened.cells);
-        Ok((opened.record, opened.lines, opened.loose))
+        Ok((opened.record, opened.lines, opened.trailing))
     }
 }
 
@@ -136,7 +136,7 @@ fn differences(slip: Slip) -> u64 {
 }
 
 #[test]
-fn the_example_of_the_paper() {
+fn the_example_of_the_scope() {
     let journal = b"G\t0\t4096\t256\t2\t0\t128\t0\nS\t0\t0\t0\t0\nC\t1\t0\t2\t8\nU\nS\t1";
     assert_eq!(model::report(journal), "OK\t4\t1\t7\t3\n0\t5\n5\t5\n5\t5\n5\t5\n");
 }
@@ -156,7 +156,7 @@ fn refusals_of_the_program() {
 }
 
 #[test]
-fn the_model_is_the_machine() {
+fn the_model_is_the_reference_model() {
     assert_eq!(differences(Slip::None), 0);
 }
 
@@ -164,7 +164,7 @@ fn the_model_is_the_machine() {
 fn every_slip_is_found() {
     let slips = [
         ("fresh ground on reopening", Slip::FreshGroundOnReopening),
-        ("reads the loose line", Slip::ReadsLooseLine),
+        ("reads a line without its LF", Slip::ReadsCutLine),
         ("lines from zero", Slip::LinesFromZero),
         ("counts one byte short", Slip::CountsOneByteShort),
         ("undo keeps the count", Slip::UndoKeepsCount),
@@ -202,13 +202,13 @@ fn every_slip_of_the_program_is_found() {
     let slips = [
         "a failed read ends the input",
         "a failed read after some bytes ends the input",
-        "a failed read is told and its bytes are opened",
+        "a failed read is reported and its bytes are opened",
         "an interrupted read ends the input",
         "an interrupted read fails",
         "an interrupted read begins anew",
         "a short write is taken for a whole one",
         "an interrupted write fails",
-        "a failed write is not told",
+        "a failed write is not reported",
     ];
     for slip in slips {
         assert!(faults_found(slip) > 0, "{slip}: not found");

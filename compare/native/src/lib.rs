@@ -1,35 +1,35 @@
 //! The original's calls under C names, for the benchmark to load. Built with
 //! `-C target-cpu=native` into a folder of its own.
-use original::plain;
+use original::{noise, plain};
 
 #[no_mangle]
 pub extern "C" fn nat_hash2(x: i32, y: i32) -> f32 {
-    plain::hash2(x, y)
+    noise::hash2(x, y)
 }
 
 #[no_mangle]
 pub extern "C" fn nat_hash3(x: i32, y: i32, z: i32) -> f32 {
-    plain::hash3(x, y, z)
+    noise::hash3(x, y, z)
 }
 
 #[no_mangle]
 pub extern "C" fn nat_noise2d(x: f32, y: f32) -> f32 {
-    plain::noise2d(x, y)
+    noise::noise2d(x, y)
 }
 
 #[no_mangle]
 pub extern "C" fn nat_noise3d(x: f32, y: f32, z: f32) -> f32 {
-    plain::noise3d(x, y, z)
+    noise::noise3d(x, y, z)
 }
 
 #[no_mangle]
 pub extern "C" fn nat_fbm2d(x: f32, y: f32, octaves: u32) -> f32 {
-    plain::fbm2d(x, y, octaves)
+    noise::fbm2d(x, y, octaves)
 }
 
 #[no_mangle]
 pub extern "C" fn nat_fbm3d(x: f32, y: f32, z: f32, octaves: u32) -> f32 {
-    plain::fbm3d(x, y, z, octaves)
+    noise::fbm3d(x, y, z, octaves)
 }
 
 #[no_mangle]

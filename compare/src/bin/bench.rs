@@ -1,25 +1,29 @@
-//! Times the product, the original at the baseline of x86-64 and the original built for this
-//! processor, in turns, and prints a table of medians. With `count N SIDE` it runs one workload once,
-//! for a tool that counts instructions.
-use compare::ffi::native::{self, Native};
-use compare::ffi::session::Product;
-use compare::ffi::{self, Site};
-use compare::ground::height_at;
+//! Times the product, the original at the baseline of x86-64 and the original built for this processor, in turns.
+//!   bench table LIBRARY      the times and their ratios; LIBRARY is the original built for this processor
+//!   bench markdown LIBRARY   only ratios, of instructions too, and the stack: the tables of docs/SPEED.md
+//!   bench instructions       how many instructions each side takes, counted by valgrind
+//!   bench count N SIDE       runs one side of a workload once, for valgrind
+use compare::ground::{height_at, Laid, Site};
 use compare::model::Call;
+use compare::native::{self, Native};
+use compare::product::{self, Product};
+use compare::report::Report;
 use compare::rng::Rng;
 use compare::session::Calls;
-use compare::stack;
+use compare::{stack, system};
 use original::plain;
 use std::cell::RefCell;
 use std::hint::black_box;
+use std::process::{Command, ExitCode};
 
 /// How often each side of a workload is timed; the median counts.
 const ROUNDS: usize = 9;
 
-/// A workload: a name, and one run for each side. Each answers a number that is kept, so that
-/// no compiler drops the work.
+/// A workload: a name, and one run for each side, which makes a call so many times. Each answers a
+/// number that is kept, so that no compiler drops the work.
 struct Workload<'a> {
     name: String,
+    times: usize,
     product: Box<dyn Fn() -> f64 + 'a>,
     baseline: Box<dyn Fn() -> f64 + 'a>,
     native: Option<Box<dyn Fn() -> f64 + 'a>>,
@@ -27,9 +31,9 @@ struct Workload<'a> {
 
 /// The processor time of a run in microseconds.
 fn timed(run: &dyn Fn() -> f64) -> f64 {
-    let start = ffi::thread_time();
+    let start = system::thread_time();
     black_box(run());
-    (ffi::thread_time() - start) * 1e6
+    (system::thread_time() - start) * 1e6
 }
 
 fn median(mut times: Vec<f64>) -> f64 {
@@ -37,8 +41,15 @@ fn median(mut times: Vec<f64>) -> f64 {
     times[times.len() / 2]
 }
 
-/// Times the sides in turns and prints a row.
-fn measure(w: &Workload) {
+/// What the sides of a workload took: microseconds, or instructions.
+struct Taken {
+    product: f64,
+    baseline: f64,
+    native: Option<f64>,
+}
+
+/// Times the sides in turns.
+fn measure(w: &Workload) -> Taken {
     let (mut ours, mut base, mut near) = (vec![], vec![], vec![]);
     for _ in 0..ROUNDS {
         ours.push(timed(&w.product));
@@ -47,24 +58,17 @@ fn measure(w: &Workload) {
             near.push(timed(run));
         }
     }
-    let (ours, base) = (median(ours), median(base));
-    let last = if near.is_empty() {
-        "-".to_string()
-    } else {
-        let near = median(near);
-        format!("{near:11.1} {:8.2}", near / ours)
-    };
-    println!(
-        "{:36} {ours:11.1} {base:11.1} {:8.2} {:8.2} {last}",
-        w.name,
-        ours / base,
-        base / ours
-    );
+    Taken {
+        product: median(ours),
+        baseline: median(base),
+        native: (!near.is_empty()).then(|| median(near)),
+    }
 }
 
-/// Sums f over the inputs.
-fn sum<T: Copy>(inputs: &[T], f: impl Fn(T) -> f32) -> f64 {
-    inputs.iter().map(|&i| f(i) as f64).sum()
+/// The exclusive or of what f answers over the inputs. A sum of floats would have to be saved around each call, since no
+/// vector register is the caller's, and that takes longer than a hash.
+fn gather<T: Copy>(inputs: &[T], f: impl Fn(T) -> f32) -> f64 {
+    inputs.iter().fold(0u32, |bits, &i| bits ^ f(i).to_bits()) as f64
 }
 
 /// World coordinates as the terrain scales them.
@@ -84,18 +88,21 @@ fn wholes(n: usize) -> Vec<(i32, i32, i32)> {
 fn hashes<'a>(at: &'a [(i32, i32, i32)], near: Option<&'a Native>) -> Vec<Workload<'a>> {
     vec![
         Workload {
-            name: format!("hash2, {} calls", at.len()),
-            product: Box::new(|| sum(at, |(x, y, _)| ffi::hash2(x, y))),
-            baseline: Box::new(|| sum(at, |(x, y, _)| plain::hash2(x, y))),
+            name: "hash2".into(),
+            times: at.len(),
+            product: Box::new(|| gather(at, |(x, y, _)| product::hash2(x, y))),
+            baseline: Box::new(|| gather(at, |(x, y, _)| plain::hash2(x, y))),
             native: near
-                .map(|n| Box::new(move || sum(at, |(x, y, _)| (n.hash2)(x, y))) as Box<dyn Fn() -> f64>),
+                .map(|n| Box::new(move || gather(at, |(x, y, _)| (n.hash2)(x, y))) as Box<dyn Fn() -> f64>),
         },
         Workload {
-            name: format!("hash3, {} calls", at.len()),
-            product: Box::new(|| sum(at, |(x, y, z)| ffi::hash3(x, y, z))),
-            baseline: Box::new(|| sum(at, |(x, y, z)| plain::hash3(x, y, z))),
-            native: near
-                .map(|n| Box::new(move || sum(at, |(x, y, z)| (n.hash3)(x, y, z))) as Box<dyn Fn() -> f64>),
+            name: "hash3".into(),
+            times: at.len(),
+            product: Box::new(|| gather(at, |(x, y, z)| product::hash3(x, y, z))),
+            baseline: Box::new(|| gather(at, |(x, y, z)| plain::hash3(x, y, z))),
+            native: near.map(|n| {
+                Box::new(move || gather(at, |(x, y, z)| (n.hash3)(x, y, z))) as Box<dyn Fn() -> f64>
+            }),
         },
     ]
 }
@@ -103,32 +110,38 @@ fn hashes<'a>(at: &'a [(i32, i32, i32)], near: Option<&'a Native>) -> Vec<Worklo
 fn noises<'a>(at: &'a [(f32, f32, f32)], near: Option<&'a Native>) -> Vec<Workload<'a>> {
     vec![
         Workload {
-            name: format!("noise2d, {} calls", at.len()),
-            product: Box::new(|| sum(at, |(x, y, _)| ffi::noise2d(x, y))),
-            baseline: Box::new(|| sum(at, |(x, y, _)| plain::noise2d(x, y))),
+            name: "noise2d".into(),
+            times: at.len(),
+            product: Box::new(|| gather(at, |(x, y, _)| product::noise2d(x, y))),
+            baseline: Box::new(|| gather(at, |(x, y, _)| plain::noise2d(x, y))),
             native: near
-                .map(|n| Box::new(move || sum(at, |(x, y, _)| (n.noise2d)(x, y))) as Box<dyn Fn() -> f64>),
+                .map(|n| Box::new(move || gather(at, |(x, y, _)| (n.noise2d)(x, y))) as Box<dyn Fn() -> f64>),
         },
         Workload {
-            name: format!("noise3d, {} calls", at.len()),
-            product: Box::new(|| sum(at, |(x, y, z)| ffi::noise3d(x, y, z))),
-            baseline: Box::new(|| sum(at, |(x, y, z)| plain::noise3d(x, y, z))),
-            native: near
-                .map(|n| Box::new(move || sum(at, |(x, y, z)| (n.noise3d)(x, y, z))) as Box<dyn Fn() -> f64>),
-        },
-        Workload {
-            name: format!("fbm2d of 4 octaves, {} calls", at.len()),
-            product: Box::new(|| sum(at, |(x, y, _)| ffi::fbm2d(x, y, 4))),
-            baseline: Box::new(|| sum(at, |(x, y, _)| plain::fbm2d(x, y, 4))),
-            native: near
-                .map(|n| Box::new(move || sum(at, |(x, y, _)| (n.fbm2d)(x, y, 4))) as Box<dyn Fn() -> f64>),
-        },
-        Workload {
-            name: format!("fbm3d of 3 octaves, {} calls", at.len()),
-            product: Box::new(|| sum(at, |(x, y, z)| ffi::fbm3d(x, y, z, 3))),
-            baseline: Box::new(|| sum(at, |(x, y, z)| plain::fbm3d(x, y, z, 3))),
+            name: "noise3d".into(),
+            times: at.len(),
+            product: Box::new(|| gather(at, |(x, y, z)| product::noise3d(x, y, z))),
+            baseline: Box::new(|| gather(at, |(x, y, z)| plain::noise3d(x, y, z))),
             native: near.map(|n| {
-                Box::new(move || sum(at, |(x, y, z)| (n.fbm3d)(x, y, z, 3))) as Box<dyn Fn() -> f64>
+                Box::new(move || gather(at, |(x, y, z)| (n.noise3d)(x, y, z))) as Box<dyn Fn() -> f64>
+            }),
+        },
+        Workload {
+            name: "fbm2d of 4 octaves".into(),
+            times: at.len(),
+            product: Box::new(|| gather(at, |(x, y, _)| product::fbm2d(x, y, 4))),
+            baseline: Box::new(|| gather(at, |(x, y, _)| plain::fbm2d(x, y, 4))),
+            native: near.map(|n| {
+                Box::new(move || gather(at, |(x, y, _)| (n.fbm2d)(x, y, 4))) as Box<dyn Fn() -> f64>
+            }),
+        },
+        Workload {
+            name: "fbm3d of 3 octaves".into(),
+            times: at.len(),
+            product: Box::new(|| gather(at, |(x, y, z)| product::fbm3d(x, y, z, 3))),
+            baseline: Box::new(|| gather(at, |(x, y, z)| plain::fbm3d(x, y, z, 3))),
+            native: near.map(|n| {
+                Box::new(move || gather(at, |(x, y, z)| (n.fbm3d)(x, y, z, 3))) as Box<dyn Fn() -> f64>
             }),
         },
     ]
@@ -138,7 +151,7 @@ fn noises<'a>(at: &'a [(f32, f32, f32)], near: Option<&'a Native>) -> Vec<Worklo
 /// original makes its chunk anew, as its interface asks.
 fn ground<'a>(name: &str, s: Site, times: usize, near: Option<&'a Native>) -> Workload<'a> {
     let repeat = move |f: &dyn Fn() -> usize| (0..times).map(|_| f() as f64).sum();
-    let cells = std::cell::RefCell::new(vec![0u16; s.chunk_size.pow(3)]);
+    let cells = RefCell::new(vec![0u16; s.chunk_size.pow(3)]);
     let rust = move |f: extern "C" fn(u32, i32, i32, usize, i32, i32, i32) -> u32| {
         f(
             s.seed,
@@ -151,11 +164,12 @@ fn ground<'a>(name: &str, s: Site, times: usize, near: Option<&'a Native>) -> Wo
         ) as usize
     };
     Workload {
-        name: format!("{name}, size {}, x{times}", s.chunk_size),
+        name: format!("{name}, size {}", s.chunk_size),
+        times,
         product: Box::new(move || {
-            repeat(&|| match ffi::generate(&s, &mut cells.borrow_mut()) {
-                ffi::Laid::Count(n) => n as usize,
-                ffi::Laid::Refused(_) => unreachable!("a benchmark's chunk is within the limits"),
+            repeat(&|| match product::generate(&s, &mut cells.borrow_mut()) {
+                Laid::Count(n) => n as usize,
+                Laid::Refused(_) => unreachable!("a benchmark's chunk is within the limits"),
             })
         }),
         baseline: Box::new(move || repeat(&|| rust(plain::generate))),
@@ -197,7 +211,7 @@ fn grounds(near: Option<&Native>) -> Vec<Workload<'_>> {
     all
 }
 
-/// All workloads of this library.
+/// What both sides do.
 fn workloads<'a>(
     whole: &'a [(i32, i32, i32)],
     real: &'a [(f32, f32, f32)],
@@ -209,13 +223,14 @@ fn workloads<'a>(
     all
 }
 
-/// Calls of a session at its limits, at size 64: the Rust has none, so each stands beside one
-/// generation of its chunk. A call is made again and again from the same record.
+/// Calls of a session at its limits, at size 64: the Rust has none, so the other side is one
+/// generation of the chunk by the product. A call is made again and again from the same record.
 fn presses<'a>() -> Vec<Workload<'a>> {
     let site = stack::site();
     let start = stack::long_session(&Product, site);
     let row = |name: &str, times: usize, run: Box<dyn Fn() -> f64>| Workload {
-        name: format!("{name}, x{times}"),
+        name: name.into(),
+        times,
         product: Box::new(move || (0..times).map(|_| run()).sum()),
         baseline: Box::new(move || one_generation(site)),
         native: None,
@@ -259,58 +274,167 @@ fn presses<'a>() -> Vec<Workload<'a>> {
 /// One generation of a chunk by the product.
 fn one_generation(site: Site) -> f64 {
     let mut cells = vec![0; site.chunk_size.pow(3)];
-    match ffi::generate(&site, &mut cells) {
-        ffi::Laid::Count(n) => n as f64,
-        ffi::Laid::Refused(_) => unreachable!("a benchmark's chunk is within the limits"),
+    match product::generate(&site, &mut cells) {
+        Laid::Count(n) => n as f64,
+        Laid::Refused(_) => unreachable!("a benchmark's chunk is within the limits"),
     }
 }
 
-/// The work whose instructions are counted: the tool collects inside this function alone.
+/// The work whose instructions are counted: valgrind collects inside this function alone.
 #[inline(never)]
 fn counted_work(run: &dyn Fn() -> f64) -> f64 {
     black_box(run())
 }
 
-/// Runs one side of a workload once, and prints its name; past the last one it prints nothing.
-fn count(all: &[Workload], number: usize, side: &str) {
-    if let Some(w) = all.get(number) {
-        println!("{}", w.name);
-        black_box(counted_work(if side == "product" {
-            &w.product
-        } else {
-            &w.baseline
-        }));
-    }
+/// The instructions that a run of a workload's side takes; its number is that in the list of both kinds.
+fn instructions(number: usize, side: &str) -> Option<f64> {
+    let output = Command::new("valgrind")
+        .args(["--tool=callgrind", "--callgrind-out-file=/dev/null"])
+        .arg("--toggle-collect=*counted_work*")
+        .arg(std::env::current_exe().ok()?)
+        .args(["count", &number.to_string(), side])
+        .output()
+        .ok()?;
+    let text = String::from_utf8_lossy(&output.stderr).into_owned();
+    let count = text.split("Collected : ").nth(1)?;
+    count.split_whitespace().next()?.parse().ok()
 }
 
-/// Times all workloads and prints the table.
+/// The instructions of both sides.
+fn counted(number: usize) -> Option<Taken> {
+    Some(Taken {
+        product: instructions(number, "product")?,
+        baseline: instructions(number, "baseline")?,
+        native: None,
+    })
+}
+
+const SESSIONS: &str =
+    "Calls of a session with 255 active edits and a journal of 32 KiB, at size 64 and the surface. The
+other side is one generation of that chunk by the product itself.";
+
+/// A line of a table for the screen.
+fn line(w: &Workload, t: &Taken) -> String {
+    let native = t.native.map_or("-".to_string(), |native| {
+        format!("{native:11.1} {:8.2}", native / t.product)
+    });
+    let name = format!("{}, x{}", w.name, w.times);
+    let (product, baseline) = (t.product, t.baseline);
+    let (up, down) = (product / baseline, baseline / product);
+    format!("{name:36} {product:13.1} {baseline:13.1} {up:8.2} {down:8.2} {native}")
+}
+
+/// Prints the times of all workloads.
 fn table(all: &[Workload]) {
+    println!("Medians of {ROUNDS} rounds in turns, microseconds of processor time. Rust: the original at opt-level 3");
     println!(
-        "Medians of {ROUNDS} rounds in turns, microseconds of processor time. Rust: the original at opt-level 3 for the"
+        "for the x86-64 baseline; native: the original built for this processor. /: one time over the other."
     );
-    println!("x86-64 baseline; native: the original built for this processor. /: one time over the other.");
     println!(
-        "{:36} {:>11} {:>11} {:>8} {:>8} {:>11} {:>8}",
+        "{:36} {:>13} {:>13} {:>8} {:>8} {:>11} {:>8}",
         "workload", "product", "Rust", "prod/R", "R/prod", "native", "nat/prod"
     );
-    all.iter().for_each(measure);
-    println!("Calls of a session with 255 active edits and a journal of 32 KiB, at size 64 and the surface. Here the second");
-    println!("time is one generation of that chunk by the product itself.");
-    presses().iter().for_each(measure);
+    all.iter().for_each(|w| println!("{}", line(w, &measure(w))));
+    println!("{SESSIONS}");
+    presses()
+        .iter()
+        .for_each(|w| println!("{}", line(w, &measure(w))));
 }
 
-fn main() {
-    let words: Vec<String> = std::env::args().skip(1).collect();
-    let (whole, real) = (wholes(20_000), points(5_000));
-    match words.as_slice() {
-        [mode, number, side] if mode == "count" => {
-            let mut all = workloads(&whole, &real, None);
-            all.extend(presses());
-            count(&all, number.parse().unwrap_or(usize::MAX), side);
+/// Prints the instructions of all workloads.
+fn instruction_table(all: &[Workload]) -> Option<()> {
+    println!("Instructions, counted by valgrind. Rust: the original at opt-level 3 for the x86-64 baseline.");
+    println!(
+        "{:36} {:>13} {:>13} {:>8} {:>8}",
+        "workload", "product", "Rust", "prod/R", "R/prod"
+    );
+    for (number, w) in all.iter().enumerate() {
+        println!("{}", line(w, &counted(number)?));
+    }
+    println!("{SESSIONS}");
+    for (number, w) in (all.len()..).zip(&presses()) {
+        println!("{}", line(w, &counted(number)?));
+    }
+    Some(())
+}
+
+/// A ratio in three digits.
+fn three(ratio: f64) -> String {
+    let digits = 2 - ratio.log10().floor() as i32;
+    let unit = 10f64.powi(digits);
+    let decimals = digits.clamp(0, 2) as usize;
+    format!("{:.decimals$}", (ratio * unit).round() / unit)
+}
+
+/// Prints the tables of docs/SPEED.md: no time, only ratios of what was measured in this run. All times are taken
+/// before valgrind first runs.
+fn markdown(all: &[Workload]) -> Option<()> {
+    let presses = presses();
+    let times: Vec<Taken> = all.iter().chain(&presses).map(measure).collect();
+    println!("| workload | Rust / product | native Rust / product | instructions, Rust / product |");
+    println!("|---|---|---|---|");
+    for (number, w) in all.iter().enumerate() {
+        let (t, count) = (&times[number], counted(number)?);
+        let baseline = three(t.baseline / t.product);
+        let native = t.native.map_or("-".into(), |native| three(native / t.product));
+        let fewer = three(count.baseline / count.product);
+        println!("| {} | {baseline} | {native} | {fewer} |", w.name);
+    }
+    println!();
+    println!("| call of a session | calls in the time of one generation | in the instructions of one |");
+    println!("|---|---|---|");
+    for (number, w) in (all.len()..).zip(&presses) {
+        let (t, count) = (&times[number], counted(number)?);
+        let [time, fewer] = [t, &count].map(|t| three(w.times as f64 * t.baseline / t.product));
+        println!("| {} | {time} | {fewer} |", w.name);
+    }
+    println!();
+    println!("| call at size 64 | bytes of stack |");
+    println!("|---|---|");
+    for (name, bytes) in stack::measure(&mut Report::quiet()) {
+        if bytes > system::NEAR {
+            println!("| {name} | {bytes} |");
         }
-        _ => {
-            let loaded = native::load(words.first().map_or("", String::as_str));
-            table(&workloads(&whole, &real, loaded.as_ref()));
+    }
+    println!("| every other call | at most {} |", system::NEAR);
+    Some(())
+}
+
+fn main() -> ExitCode {
+    let words: Vec<String> = std::env::args().skip(1).collect();
+    let words: Vec<&str> = words.iter().map(String::as_str).collect();
+    let (whole, real) = (wholes(20_000), points(5_000));
+    let loaded = match words[..] {
+        ["table" | "markdown", path] => native::load(path),
+        _ => None,
+    };
+    let mut all = workloads(&whole, &real, loaded.as_ref());
+    let done = match words[..] {
+        ["table", _] => {
+            table(&all);
+            Some(())
+        }
+        ["markdown", _] => markdown(&all),
+        ["instructions"] => instruction_table(&all),
+        ["count", number, side] => number.parse().ok().and_then(|number: usize| {
+            if number >= all.len() {
+                all.extend(presses());
+            }
+            let w = all.get(number)?;
+            black_box(counted_work(if side == "product" {
+                &w.product
+            } else {
+                &w.baseline
+            }));
+            Some(())
+        }),
+        _ => None,
+    };
+    match done {
+        Some(()) => ExitCode::SUCCESS,
+        None => {
+            eprintln!("bench: valgrind counts nothing, or these are no words of bench: {words:?}");
+            ExitCode::from(2)
         }
     }
 }

@@ -52,7 +52,7 @@ fn write(text: &[u8], slip: &str) -> Result<(), Error> {
             Ok(_) if slip == "a short write is taken for a whole one" => return Ok(()),
             Ok(n) => at += n,
             Err(e) if e.kind() == ErrorKind::Interrupted && slip != "an interrupted write fails" => (),
-            Err(_) if slip == "a failed write is not told" => return Ok(()),
+            Err(_) if slip == "a failed write is not reported" => return Ok(()),
             Err(e) => return Err(e),
         }
     }
@@ -65,7 +65,7 @@ pub extern "C" fn main() -> i32 {
     match read(&slip) {
         Err(e) => {
             fail("input", &e);
-            if slip == "a failed read is told and its bytes are opened" {
+            if slip == "a failed read is reported and its bytes are opened" {
                 let _ = write(model::report(b"").as_bytes(), &slip);
             }
         }

@@ -3,7 +3,7 @@
 //! asks for: aligned, of its length, and where it is `&mut` not shared. include/perillahinge.h documents the calls.
 #![deny(missing_docs)]
 
-mod raw;
+pub mod raw;
 
 pub use raw::{Config, Pos, Session};
 
