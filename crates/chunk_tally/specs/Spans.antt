@@ -102,10 +102,10 @@ sets-append l i (v ∷ vs) us =
     sets-append (set l i v) (suc i) vs us
     ∙ ap (λ (k : ℕ). sets (sets (set l i v) (suc i) vs) k us) (let e : suc i + length vs ≡ i + length (v ∷ vs) = omega arith in e)
 
-pub front-more :
+pub sets-behind :
     (p d w : List ℕ) (n : ℕ) → n ≡ length p → n + length w ≤ length d
     → sets (p ++ drop n d) n w ≡ (p ++ w) ++ drop (n + length w) d
-front-more p d w n e h =
+sets-behind p d w n e h =
     let l : length (p ++ drop n d) ≡ length d = simp (length-append, length-drop) (omega arith) in
     sets-eq w (p ++ drop n d) n (omega arith)
     ∙ ap₂ (λ (a : List ℕ). λ (r : List ℕ). (a ++ w) ++ r)
@@ -220,7 +220,7 @@ pub front-step :
     (p d w l l′ r : List ℕ) (n n′ : ℕ) → n ≡ length p → l ≡ p ++ drop n d → l′ ≡ sets l n w → n′ ≡ n + length w → n + length w ≤ length d → p ++ w ≡ r
     → l′ ≡ r ++ drop n′ d
 front-step p d w l l′ r n n′ en el e em h er =
-    e ∙ ap (λ (m : List ℕ). sets m n w) el ∙ front-more p d w n en h ∙ ap₂ (λ (m : List ℕ). λ (k : ℕ). m ++ drop k d) er (sym em)
+    e ∙ ap (λ (m : List ℕ). sets m n w) el ∙ sets-behind p d w n en h ∙ ap₂ (λ (m : List ℕ). λ (k : ℕ). m ++ drop k d) er (sym em)
 
 pub front-length : (p d l : List ℕ) (n : ℕ) → n ≡ length p → n ≤ length d → l ≡ p ++ drop n d → length l ≡ length d
 front-length p d l n en h e = ap length e ∙ simp (length-append, length-drop) (omega arith)

@@ -1,4 +1,4 @@
-// What a batch of any length changes: a long one is tried on a copy of the cells.
+// What a batch of any length changes: of a long one, by a dry run on a copy of the cells.
 ghost use mathlib.Core.Path.{_≡_};
 ghost use Prim.Native.Nat.{_+_, _/_, _≤_};
 ghost use lib.ListN.{length, getD};

@@ -1,4 +1,4 @@
-// The settings of the ground, the place of a chunk, and their limits.
+// The settings of the ground, the place of a chunk and their limits; limits and refusal numbers by name.
 ghost use mathlib.Core.Path.{_≡_};
 ghost use Rattle.config.specs.Limits.{within, sizeOk, placeOk, placesOk, limitRefusal, configHeader, Narrow};
 ghost use mathlib.Core.Bool.{true};
