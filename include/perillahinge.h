@@ -42,8 +42,8 @@ enum pl_number {
     PL_JOURNAL_LENGTH = 9,  /* journal over 32,768 bytes, or more held bytes than it is long */
     PL_NO_LINE = 10,        /* no whole line among the held bytes */
     PL_FIRST_LINE = 11,     /* first line not of its form */
-    PL_LATER_LINE = 12,     /* a later line not of its form, or one that may not stand there */
-    PL_TALLY_LISTS = 13,    /* tally lists shorter than the ids present */
+    PL_LATER_LINE = 12,     /* a line behind the first that is malformed, or that may not stand there */
+    PL_TALLY_LISTS = 13,    /* a list of the tally has fewer places than there are ids */
     PL_RECORD = 21,         /* an invalid record, or a count that does not belong to these cells */
     PL_USED_BYTES = 22,     /* undo: the used bytes are not this record's journal */
     PL_NOTHING_ACTIVE = 23, /* undo: nothing is active */

@@ -176,7 +176,7 @@ fn session(report: &mut Report, rng: &mut Rng, calls: &impl Calls, many: u64) ->
     Some(states)
 }
 
-/// A session cut at every byte, with tails of zeros (SCOPE 9.2): the reopened one has the cells, count, used bytes
+/// A session cut at every byte, with tails of zeros (SCOPE 9.2, 9.5): the reopened one has the cells, count, used bytes
 /// and active edits that the first one had after the last call whose line is whole, and goes on with the same answers.
 fn cuts(report: &mut Report, rng: &mut Rng, calls: &impl Calls, states: &[Lent]) {
     let last = states.last().expect("a session has a state");

@@ -1,5 +1,5 @@
 // The cells of a chunk, borrowed: replacing all of them, setting one and filling a column. Arguments that
-// a call does not take are refused with the cause's number (SCOPE 10.2), and the cells are then as they were.
+// a call does not take are refused with the cause's number (SCOPE 10.2, 10.3), and the cells are then as they were.
 ghost use mathlib.Core.Path.{_≡_};
 ghost use lib.ListN.{length};
 ghost use Rattle.config.specs.Answers.{cellsOutcome};

@@ -19,7 +19,7 @@ unfoldable pub use Rattle.ground_chunk.specs.Laid.{groundIn}
 use Rattle.ground.specs.declared.Generated.{Generated}
 use Rattle.ground.specs.declared.Generated.the-variants.{Count, Refused}
 
--- SCOPE 4.1: the seed moves the coordinates by 1,000 a step; the greatest height is one below the world's
+-- SCOPE 4.1: the seed moves the coordinates by 1,000 a step; 4.6: the greatest height is one below the world's
 abbrev pub worldWith : Float → ℤ → ℤ → World
 worldWith offset sea top = record { «seed_offset» = offset; «sea_level» = sea; «max_height» = top }
 

@@ -66,7 +66,7 @@ batchInC o = batchAnswered (batchAnswerOf (o .answer)) (o .cells)
 
 -- ---- the border
 
--- SCOPE 5.8: a face is a number, 0 to 5 in the order of the Rust
+-- SCOPE 5.8, 10.6: a face is a number, 0 to 5 in the order of the Rust
 abbrev pub faceOf : ℕ → Option Face
 faceOf zero = some PosX
 faceOf (suc zero) = some NegX

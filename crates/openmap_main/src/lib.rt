@@ -1,4 +1,5 @@
-// What the programs share that open a map (SCOPE 11): standard input is read to its end, `report` makes the text, and it is written whole.
+// What the programs share that open a map (SCOPE 11): standard input is read to its end, or to one byte more than a journal may have, `report`
+// makes the text, and it is written whole.
 // A read or a write that fails is reported in a line on standard error (SCOPE 11.5); of a journal that was not read to its end nothing is opened.
 ghost use mathlib.Core.Path.{_≡_};
 ghost use lib.ListN.{length};
