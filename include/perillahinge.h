@@ -42,7 +42,7 @@ enum pl_number {
     PL_JOURNAL_LENGTH = 9,  /* journal over 32,768 bytes, or more held bytes than it is long */
     PL_NO_LINE = 10,        /* no whole line among the held bytes */
     PL_FIRST_LINE = 11,     /* first line not of its form */
-    PL_LATER_LINE = 12,     /* a line behind the first that is malformed, or that may not stand there */
+    PL_LATER_LINE = 12,     /* a line behind the first that is malformed, or not allowed there */
     PL_TALLY_LISTS = 13,    /* a list of the tally has fewer places than there are ids */
     PL_RECORD = 21,         /* an invalid record, or a count that does not belong to these cells */
     PL_USED_BYTES = 22,     /* undo: the used bytes are not this record's journal */
@@ -71,7 +71,8 @@ typedef struct pl_config {
     size_t chunk_size;
 } pl_config;
 
-/* The place of a chunk. Each number times the size is at least -1,000,000, that plus size - 1 at most 1,000,000. */
+/* The place of a chunk. Along each axis the first cell, this number times the size, is at -1,000,000 or above, and
+ * the last one at 1,000,000 or below. */
 typedef struct pl_pos {
     int32_t cx;
     int32_t cy;

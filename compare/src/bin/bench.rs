@@ -396,7 +396,7 @@ fn markdown(all: &[Workload]) -> Option<()> {
             println!("| {name} | {bytes} |");
         }
     }
-    println!("| every other call | at most {} |", system::NEAR);
+    println!("| every other call that is measured | at most {} |", system::NEAR);
     Some(())
 }
 

@@ -36,13 +36,13 @@ pub const NO_LINE: u32 = 10;
 // The first line is not of its form.
 pub const FIRST_LINE: u32 = 11;
 
-// A later line is not of its form, or may not stand there.
+// A later line is malformed, or not allowed there.
 pub const LATER_LINE: u32 = 12;
 
 // The tally's lists are shorter than the ids present.
 pub const TALLY_LISTS: u32 = 13;
 
-// The record cannot be, or the count does not belong to these cells.
+// The record is invalid, or the count does not belong to these cells.
 pub const RECORD: u32 = 21;
 
 // The used bytes are not this record's journal.

@@ -59,9 +59,9 @@ column-least w o t k = height-least w t (o .ox +ℤ pos (k % o .size)) (o .oz +�
 abbrev Block : ℕ → Type 0
 Block n = (1 ≤ n) × (n < 65536)
 
-either : (b : Bool) (x y : ℕ) → Block x → Block y → Block (cond b x y)
-either true x y p q = p
-either false x y p q = q
+one-of : (b : Bool) (x y : ℕ) → Block x → Block y → Block (cond b x y)
+one-of true x y p q = p
+one-of false x y p q = q
 
 lit : (n : ℕ) → T (leb 1 n) → T (ltb n 65536) → Block n
 lit n p q = (leb→le 1 n p, ltb→lt n 65536 q)
@@ -69,20 +69,20 @@ lit n p q = (leb→le 1 n p, ltb→lt n 65536 q)
 top-block : (wy h : ℤ) → Block (mountainTop wy h)
 unfolding mountainTop
 top-block wy h =
-    either (ltZ h (pos 41)) 1 _ (lit 1 tt tt)
-    (either (ltZ h (pos 56)) 7 _ (lit 7 tt tt) (either (ltZ h (pos 71)) _ 6 (either (snowPatch wy h) 6 1 (lit 6 tt tt) (lit 1 tt tt)) (lit 6 tt tt)))
+    one-of (ltZ h (pos 41)) 1 _ (lit 1 tt tt)
+    (one-of (ltZ h (pos 56)) 7 _ (lit 7 tt tt) (one-of (ltZ h (pos 71)) _ 6 (one-of (snowPatch wy h) 6 1 (lit 6 tt tt) (lit 1 tt tt)) (lit 6 tt tt)))
 
 shore-block : (h sea : ℤ) → Block (shoreBlock h sea)
 unfolding shoreBlock
-shore-block h sea = either (ltZ (h -ℤ sea) (pos 3)) 4 3 (lit 4 tt tt) (lit 3 tt tt)
+shore-block h sea = one-of (ltZ (h -ℤ sea) (pos 3)) 4 3 (lit 4 tt tt) (lit 3 tt tt)
 
 -- below the surface, where no cave is, stands a block
 pub select-block-solid : (b : Biome) (wy h sea : ℤ) → Block (selectBlock b wy h sea)
 unfolding selectBlock desertBlock mountainBlock forestBlock plainsBlock
-select-block-solid Desert wy h sea = either (ltZ (h -ℤ wy) (pos 5)) 4 _ (lit 4 tt tt) (either (ltZ (h -ℤ wy) (pos 9)) 7 1 (lit 7 tt tt) (lit 1 tt tt))
-select-block-solid Mountain wy h sea = either (ltZ (h -ℤ wy) (pos 3)) _ 1 (top-block wy h) (lit 1 tt tt)
-select-block-solid Forest wy h sea = either (ltZ (h -ℤ wy) (pos 2)) _ _ (shore-block h sea) (either (ltZ (h -ℤ wy) (pos 6)) 2 1 (lit 2 tt tt) (lit 1 tt tt))
-select-block-solid Plains wy h sea = either (ltZ (h -ℤ wy) (pos 2)) _ _ (shore-block h sea) (either (ltZ (h -ℤ wy) (pos 5)) 2 1 (lit 2 tt tt) (lit 1 tt tt))
+select-block-solid Desert wy h sea = one-of (ltZ (h -ℤ wy) (pos 5)) 4 _ (lit 4 tt tt) (one-of (ltZ (h -ℤ wy) (pos 9)) 7 1 (lit 7 tt tt) (lit 1 tt tt))
+select-block-solid Mountain wy h sea = one-of (ltZ (h -ℤ wy) (pos 3)) _ 1 (top-block wy h) (lit 1 tt tt)
+select-block-solid Forest wy h sea = one-of (ltZ (h -ℤ wy) (pos 2)) _ _ (shore-block h sea) (one-of (ltZ (h -ℤ wy) (pos 6)) 2 1 (lit 2 tt tt) (lit 1 tt tt))
+select-block-solid Plains wy h sea = one-of (ltZ (h -ℤ wy) (pos 2)) _ _ (shore-block h sea) (one-of (ltZ (h -ℤ wy) (pos 5)) 2 1 (lit 2 tt tt) (lit 1 tt tt))
 
 either : (b : Bool) (x y : ℕ) → x < 65536 → y < 65536 → cond b x y < 65536
 either true x y p q = p

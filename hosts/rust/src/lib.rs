@@ -23,7 +23,7 @@ pub enum Refusal {
     NoLine,
     /// The first line is not of its form.
     FirstLine,
-    /// This line, counted from 1, is not of its form or may not stand there.
+    /// This line, counted from 1, is malformed or not allowed there.
     LaterLine(usize),
     TallyLists,
     Record,
