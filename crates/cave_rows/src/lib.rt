@@ -29,8 +29,11 @@ use num_core::float::of_i32;
 // From a place of an octave to the same place two octaves on.
 const TWO_OCTAVES: usize = 2 * PLACES;
 
-// How long the edges are: a layer for each octave before the ravines', which have no levels.
-pub const EDGES: usize = RAVINE * LAYER;
+// How many octaves have levels: all before the ravines'.
+const LEVELLED: usize = RAVINE;
+
+// How long the edges are: a layer for each of these octaves.
+pub const EDGES: usize = LEVELLED * LAYER;
 
 // The layers of every octave at level y, for the row at z.
 pub fn first_layers(y: usize, z: usize, n: usize, floors: &[u32], eases: &[f32], edges: &mut [f32])
@@ -38,7 +41,7 @@ pub fn first_layers(y: usize, z: usize, n: usize, floors: &[u32], eases: &[f32],
     ensures { λ _. ⌜ AllLayers y z n (now (floors .entry)) (now (eases .entry)) (now (edges .exit)) ⌝ }
 {
     let mut o = 0;
-    while o < RAVINE {
+    while o < LEVELLED {
         layer_rows(
             o,
             o * PLACES + LEVEL_AT + y,
@@ -66,7 +69,7 @@ fn raise_layers(
     ensures { λ _. ⌜ AllLayers y z n (now (floors .entry)) (now (eases .entry)) (now (edges .exit)) ⌝ }
 {
     let mut o = 0;
-    while o < RAVINE {
+    while o < LEVELLED {
         let level = o * PLACES + LEVEL_AT;
         if floors[level + from] != floors[level + y] {
             layer_rows(
