@@ -11,7 +11,8 @@ use lib.ListN.{length, set, getD}
 use lib.Seq.{getD-set-other}
 use Rattle.basics.specs.Bools.{pick}
 use Rattle.grid.specs.Cube.{cellIndex, putAt, seeAt, steps}
-use Rattle.grid.specs.Grid.{index-lt, index-y, in-all, put-length, steps-length, steps-none, steps-more}
+use Rattle.grid.specs.Grid.{index-lt, index-y, put-length, steps-length, steps-none, steps-more}
+pub use Rattle.grid.specs.Grid.{put-inside, see-inside}
 use Rattle.grid.specs.Count.{nonAir, nonAirCount, count-most, non-air-most}
 use Rattle.grid_edits.specs.Edits.{clippedHeight, layColumn, fillCells, setCells}
 use borrow.Author.Tests.{ltb-true, leb-true, leb-false, le-leb, lt-leb}
@@ -30,14 +31,6 @@ count-set (a ∷ c) (suc i) v h = let e = count-set c i v (omega arith) in omega
 -- two cells have one place only where they are one cell
 pub index-one-y : (s x y z y′ : ℕ) → x < s → y < s → y′ < s → cellIndex s x y z ≡ cellIndex s x y′ z → y ≡ y′
 index-one-y s x y z y′ hx hy hy′ e = sym (index-y s x y z hx hy) ∙ ap (λ (i : ℕ). i / s % s) e ∙ index-y s x y′ z hx hy′
-
-pub put-inside : (s x y z v : ℕ) (c : List ℕ) → Inside s x y z → putAt s x y z v c ≡ set c (cellIndex s x y z) v
-unfolding putAt
-put-inside s x y z v c h = rw (in-all s x y z (h .x-in) (h .y-in) (h .z-in))
-
-pub see-inside : (s x y z : ℕ) (c : List ℕ) → Inside s x y z → seeAt s x y z c ≡ getD c (cellIndex s x y z) 0
-unfolding seeAt
-see-inside s x y z c h = rw (in-all s x y z (h .x-in) (h .y-in) (h .z-in))
 
 pub put-count : (s x y z v : ℕ) (c : List ℕ) → length c ≡ s * s * s → Inside s x y z
     → nonAirCount (putAt s x y z v c) + nonAir (seeAt s x y z c) ≡ nonAirCount c + nonAir v

@@ -1,16 +1,17 @@
 -- The refusals of calls on bare cells (SCOPE 10.2, 10.3), and what holds where none answers. Assumes nothing.
-use mathlib.Core.Path.{_≡_, refl, sym, _∙_, subst}
+use mathlib.Core.Path.{_≡_, _∙_}
 use Prim.Native.Nat.{ℕ, _+_, _-_, _*_, _≤_, _<_}
 use native.Mathlib.Omega.{arith}
 use mathlib.Core.Bool.{Bool, true, false, _&&_}
 use mathlib.Core.List.{List, [], _∷_}
-use lib.Dec.{T, ltb, leb, eqb}
+use lib.Dec.{leb, eqb}
 use lib.IntN.{pos}
 use lib.ListN.{length}
-use borrow.Author.Tests.{leb-true, eqb-true, ltb-true, le-leb, lt-leb}
+use borrow.Author.Tests.{leb-true, eqb-true, le-leb, lt-leb}
 use Rattle.basics.specs.Bools.{and-both}
 use Rattle.grid.specs.Cube.{Cube, cellIndex, inside}
 use Rattle.grid.specs.Grid.{index-lt, cube-most}
+pub use Rattle.grid.specs.Grid.{Inside, inside-true}
 use Rattle.config.specs.Refusals.{must, passed, refusal, refusal-zero, passed-zero, passed-on, passed-stop, refusal-none, refusal-pass, refusal-stop}
 use Rattle.config.specs.Limits.{sizeOk, size-between}
 
@@ -82,22 +83,6 @@ chunk-passed size n e =
 
 pub cube-of : (size : ℕ) (c : List ℕ) → Chunk size (length c) → Cube size c
 cube-of size c h = record { most = h .most; all = h .all }
-
-pub record Inside (size x y z : ℕ) : Type 0 where
-  pub x-in : x < size
-  pub y-in : y < size
-  pub z-in : z < size
-
-pub inside-true : (size x y z : ℕ) → inside size x y z ≡ true → Inside size x y z
-unfolding inside
-inside-true size x y z e = at (ltb x size) refl (ltb y size) refl (ltb z size) refl e
-  where
-    at : (a : Bool) → ltb x size ≡ a → (b : Bool) → ltb y size ≡ b → (d : Bool) → ltb z size ≡ d
-        → mathlib.Core.Bool.cond a (mathlib.Core.Bool.cond b d false) false ≡ true → Inside size x y z
-    at true p true q true r e = record { x-in = ltb-true x size p; y-in = ltb-true y size q; z-in = ltb-true z size r }
-    at true p true q false r e = absurd (subst T (sym e) tt)
-    at true p false q d r e = absurd (subst T (sym e) tt)
-    at false p b q d r e = absurd (subst T (sym e) tt)
 
 pub record CellOk (size n x y z : ℕ) : Type 0 where
   pub chunk : Chunk size n

@@ -11,7 +11,6 @@ use column_rows::climate_rows;
 use column_rows::height_rows;
 use column_rows::lowland_rows;
 use column_rows::ridge_rows;
-use column_tables::TABLE;
 use column_tables::note_rows;
 use column_tops_row::note_xs;
 use column_tops_row::put_row;
@@ -103,16 +102,26 @@ fn note_each(
     }
 }
 
-// Fills the two caches, as the Rust fills its own. The x of the columns, which all rows share, are noted once.
-pub fn note_tops(w: World, o: Frame, heights: &mut [u16], biomes: &mut [u8])
-    requires { ⌜ Tall w × Near o × (o .size * o .size ≤ length (now heights)) × (o .size * o .size ≤ length (now biomes)) ⌝ }
+// Fills the two caches, as the Rust fills its own. The x of the columns, which all rows share, are noted once, in tables that are lent.
+pub fn note_tops(
+    w: World,
+    o: Frame,
+    floors: &mut [u32],
+    eases: &mut [f32],
+    heights: &mut [u16],
+    biomes: &mut [u8],
+)
+    requires { ⌜ Tall w
+        × Near o
+        × (2304 ≤ length (now floors))
+        × (2304 ≤ length (now eases))
+        × (o .size * o .size ≤ length (now heights))
+        × (o .size * o .size ≤ length (now biomes)) ⌝ }
     ensures { λ _. ⌜ (now (heights .exit) ≡ tab (o .size * o .size) (columnHeight w o) ++ drop (o .size * o .size) (now (heights .entry)))
         × (now (biomes .exit) ≡ tab (o .size * o .size) (columnBiome w o) ++ drop (o .size * o .size) (now (biomes .entry))) ⌝ }
 {
     let mut xs = [0.0f32; PLACES];
-    let mut floors = [0u32; TABLE];
-    let mut eases = [0.0f32; TABLE];
     note_xs(w, o, &mut xs);
-    note_rows(&xs, o.size, &mut floors, &mut eases);
-    note_each(w, o, &xs, &floors, &eases, heights, biomes);
+    note_rows(&xs, o.size, floors, eases);
+    note_each(w, o, &xs, floors, eases, heights, biomes);
 }

@@ -29,6 +29,10 @@ unfoldable pub tab : ℕ → (ℕ → ℕ) → List ℕ
 tab zero f = []
 tab (suc n) f = tab n f ++ (f n ∷ [])
 
+-- n cells of one block
+unfoldable pub allOf : ℕ → ℕ → List ℕ
+allOf n id = tab n (λ (i : ℕ). id)
+
 -- the first n of a list of steps, in order
 unfoldable pub steps : ℕ → (ℕ → List ℕ → List ℕ) → List ℕ → List ℕ
 steps zero f c = c

@@ -9,9 +9,9 @@ use mathlib.Core.List.{List, [], _∷_, _++_, append-assoc, append-nil}
 use lib.ListN.{length, set, getD, drop, length-append, length-drop, length-set, List·getD-append, drop-of-length-le}
 use lib.Seq.{drop-cons, set-at, getD-at, ext-getD}
 use lib.Arith.{digits-lt, digits-div, digits-mod}
-use lib.Dec.{ltb}
-use borrow.Author.Tests.{lt-ltb, le-ltb}
-use Rattle.grid.specs.Cube.{cellIndex, inside, putAt, tab, steps, colOf}
+use lib.Dec.{T, ltb}
+use borrow.Author.Tests.{ltb-true, lt-ltb, le-ltb}
+use Rattle.grid.specs.Cube.{cellIndex, inside, putAt, seeAt, tab, allOf, steps, colOf}
 
 -- an index by its digits to the base size
 pub digits : (s x y z : ℕ) → cellIndex s x y z ≡ (z * s + y) * s + x
@@ -59,10 +59,14 @@ tab-at zero f i h = absurd (omega arith)
 tab-at (suc n) f i h = at (λ k. tab-at n f i k) (ltb i n) refl
   where
     at : (i < n → getD (tab n f) i 0 ≡ f i) → (b : Bool) → ltb i n ≡ b → getD (tab n f ++ (f n ∷ [])) i 0 ≡ f i
-    at q true e = List·getD-append (tab n f) (f n ∷ []) 0 i (rw (tab-length n f) (borrow.Author.Tests.ltb-true i n e)) ∙ q (borrow.Author.Tests.ltb-true i n e)
+    at q true e = List·getD-append (tab n f) (f n ∷ []) 0 i (rw (tab-length n f) (ltb-true i n e)) ∙ q (ltb-true i n e)
     at q false e =
         let k : i ≡ n = (let g = borrow.Author.Tests.ltb-false i n e in omega arith) in
         getD-at (tab n f) (f n) [] 0 i (tab-length n f ∙ sym k) ∙ ap f (sym k)
+
+pub all-long : (n id : ℕ) → length (allOf n id) ≡ n
+unfolding allOf
+all-long n id = tab-length n (λ (i : ℕ). id)
 
 -- the list of a list's elements
 pub tab-list : (c : List ℕ) → tab (length c) (λ (k : ℕ). getD c k 0) ≡ c
@@ -116,6 +120,31 @@ out-y s x y z hx h = rw (lt-ltb x s hx, le-ltb y s h)
 pub out-z : (s x y z : ℕ) → x < s → y < s → s ≤ z → inside s x y z ≡ false
 unfolding inside
 out-z s x y z hx hy h = rw (lt-ltb x s hx, lt-ltb y s hy, le-ltb z s h)
+
+-- a cell of the chunk
+pub record Inside (size x y z : ℕ) : Type 0 where
+  pub x-in : x < size
+  pub y-in : y < size
+  pub z-in : z < size
+
+pub inside-true : (size x y z : ℕ) → inside size x y z ≡ true → Inside size x y z
+unfolding inside
+inside-true size x y z e = at (ltb x size) refl (ltb y size) refl (ltb z size) refl e
+  where
+    at : (a : Bool) → ltb x size ≡ a → (b : Bool) → ltb y size ≡ b → (d : Bool) → ltb z size ≡ d
+        → cond a (cond b d false) false ≡ true → Inside size x y z
+    at true p true q true r e = record { x-in = ltb-true x size p; y-in = ltb-true y size q; z-in = ltb-true z size r }
+    at true p true q false r e = absurd (subst T (sym e) tt)
+    at true p false q d r e = absurd (subst T (sym e) tt)
+    at false p b q d r e = absurd (subst T (sym e) tt)
+
+pub put-inside : (s x y z v : ℕ) (c : List ℕ) → Inside s x y z → putAt s x y z v c ≡ set c (cellIndex s x y z) v
+unfolding putAt
+put-inside s x y z v c h = rw (in-all s x y z (h .x-in) (h .y-in) (h .z-in))
+
+pub see-inside : (s x y z : ℕ) (c : List ℕ) → Inside s x y z → seeAt s x y z c ≡ getD c (cellIndex s x y z) 0
+unfolding seeAt
+see-inside s x y z c h = rw (in-all s x y z (h .x-in) (h .y-in) (h .z-in))
 
 -- the steps of a loop
 pub steps-more : (n : ℕ) (f : ℕ → List ℕ → List ℕ) (c : List ℕ) → f n (steps n f c) ≡ steps (n + 1) f c

@@ -7,7 +7,8 @@ ghost use lib.Signed.{mag};
 ghost use Rattle.grid.specs.Cube.{Cube};
 ghost use Rattle.ground_cell.specs.World.{Near};
 ghost use Rattle.ground_boulders.specs.Signs.{plus, wholePart};
-ghost use Rattle.ground_boulders.specs.Boulders.{insetIn, pillarOf, boulderHash, placeBoulder, boulderColumn, bouldersOf, topIn};
+ghost use Rattle.ground_boulders.specs.Boulders.{insetIn, pillarOf, boulderHash, placeBoulder, boulderColumn, boulderStep, topIn};
+ghost use Rattle.grid_slabs.specs.Rows.{overRows};
 use grid::put;
 use ground_cell::block::STONE;
 use ground_cell::world::Frame;
@@ -99,20 +100,35 @@ fn boulder_column(cells: &mut [u16], o: Frame, t: Top, x: usize, z: usize)
     }
 }
 
-// Every column, z outer and x inner.
-pub fn place_boulders(o: Frame, heights: &[u16], biomes: &[u8], cells: &mut [u16])
-    requires { ⌜ Near o × (o .size * o .size ≤ length (now heights)) × (o .size * o .size ≤ length (now biomes)) × Cube (o .size) (now cells) ⌝ }
-    ensures { λ _. ⌜ now (cells .exit) ≡ bouldersOf o (topIn (now (heights .entry)) (now (biomes .entry))) (now (cells .entry)) ⌝ }
+// The columns of the rows from `first` on below `last`, z outer and x inner.
+pub fn place_boulders(
+    o: Frame,
+    first: usize,
+    last: usize,
+    heights: &[u16],
+    biomes: &[u8],
+    cells: &mut [u16],
+)
+    requires { ⌜ Near o
+        × (o .size * o .size ≤ length (now heights))
+        × (o .size * o .size ≤ length (now biomes))
+        × Cube (o .size) (now cells)
+        × (first ≤ last)
+        × (last ≤ o .size) ⌝ }
+    ensures { λ _. ⌜ now (cells .exit)
+        ≡ overRows (o .size) first last (boulderStep o (topIn (now (heights .entry)) (now (biomes .entry)))) (now (cells .entry)) ⌝ }
 {
     let size = o.size;
-    let n = size * size;
-    let mut k = 0;
-    while k < n {
+    let from = first * size;
+    let n = (last - first) * size;
+    let mut j = 0;
+    while j < n {
+        let k = from + j;
         let t = Top {
             height: heights[k],
             biome: biomes[k],
         };
         boulder_column(cells, o, t, k % size, k / size);
-        k += 1;
+        j += 1;
     }
 }

@@ -1,1 +1,2 @@
 pub mod Crown
+pub mod Slabs

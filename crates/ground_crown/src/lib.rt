@@ -4,8 +4,10 @@ ghost use Prim.Native.Nat.{_≤_, _<_};
 ghost use lib.IntN.{pos, _-ℤ_};
 ghost use lib.Signed.{mag};
 ghost use Rattle.grid.specs.Cube.{Cube};
-ghost use Rattle.ground_crown.specs.Crown.{Canopy, leafAt, offsetOr, squareGap, leafHash, hasLeaf, leafStep, layerOf, leafRadius, canopyOf};
+ghost use Rattle.ground_crown.specs.Crown.{Canopy, leafAt, offsetOr, squareGap, leafHash, hasLeaf, leafStep, leafRadius};
+ghost use Rattle.ground_crown.specs.Slabs.{leafStepIn, layerIn, canopyIn};
 use grid::cell_index;
+use grid_slabs::in_rows;
 use ground_cell::block::AIR;
 use ground_cell::block::LEAVES;
 use ground_cell::world::local_y;
@@ -116,10 +118,37 @@ fn leaf(
     }
 }
 
+// A leaf, in those slabs alone.
+fn leaf_in(
+    cells: &mut [u16],
+    size: usize,
+    lo: usize,
+    hi: usize,
+    x: usize,
+    z: usize,
+    wx: i32,
+    wz: i32,
+    y: usize,
+    r: usize,
+    l: usize,
+    i: usize,
+    m: usize,
+)
+    requires { ⌜ Cube size (now cells) × (x < 64) × (z < 64) × (r ≤ 4) × (l ≤ 4) × (i < 65536) × (m < 65536) ⌝ }
+    ensures { λ _. ⌜ now (cells .exit) ≡ leafStepIn lo hi size x z wx wz y r l i m (now (cells .entry)) ⌝ }
+{
+    if in_rows(lo, hi, offset(size, z, m, r)) {
+        leaf(cells, size, x, z, wx, wz, y, r, l, i, m);
+        return;
+    }
+}
+
 // The square of 2 r + 1 leaves, x outer and z inner.
 fn layer(
     cells: &mut [u16],
     size: usize,
+    lo: usize,
+    hi: usize,
     x: usize,
     z: usize,
     wx: i32,
@@ -129,13 +158,13 @@ fn layer(
     l: usize,
 )
     requires { ⌜ Cube size (now cells) × (x < 64) × (z < 64) × (r ≤ 4) × (l ≤ 4) ⌝ }
-    ensures { λ _. ⌜ now (cells .exit) ≡ layerOf size x z wx wz y r l (now (cells .entry)) ⌝ }
+    ensures { λ _. ⌜ now (cells .exit) ≡ layerIn lo hi size x z wx wz y r l (now (cells .entry)) ⌝ }
 {
     let w = 2 * r + 1;
     let n = w * w;
     let mut j = 0;
     while j < n {
-        leaf(cells, size, x, z, wx, wz, y, r, l, j / w, j % w);
+        leaf_in(cells, size, lo, hi, x, z, wx, wz, y, r, l, j / w, j % w);
         j += 1;
     }
 }
@@ -155,6 +184,8 @@ fn leaf_radius(r: usize, n: usize, l: usize) -> usize
 pub fn canopy(
     cells: &mut [u16],
     size: usize,
+    lo: usize,
+    hi: usize,
     oy: i32,
     x: usize,
     z: usize,
@@ -165,14 +196,14 @@ pub fn canopy(
     n: usize,
 )
     requires { ⌜ Cube size (now cells) × (x < 64) × (z < 64) × (mag oy ≤ 1000000) × Canopy r n × (1 ≤ top) × (top < 4294967296) ⌝ }
-    ensures { λ _. ⌜ now (cells .exit) ≡ canopyOf size oy x z wx wz (pos top) r n (now (cells .entry)) ⌝ }
+    ensures { λ _. ⌜ now (cells .exit) ≡ canopyIn lo hi size oy x z wx wz (pos top) r n (now (cells .entry)) ⌝ }
 {
     let m = n + 1;
     let mut l = 0;
     while l < m {
         let q = leaf_radius(r, n, l);
         let y = local_y(oy, top + l - 1, size);
-        layer(cells, size, x, z, wx, wz, y, q, l);
+        layer(cells, size, lo, hi, x, z, wx, wz, y, q, l);
         l += 1;
     }
 }

@@ -4,58 +4,51 @@ use mathlib.Core.List.{List}
 use mathlib.Core.Bool.{Bool, true, false, cond}
 use Prim.Native.Nat.{ℕ, _+_, _*_, _/_, _%_, _≤_, _<_}
 use native.Mathlib.Omega.{arith}
-use native.Mathlib.Nat.{add-mul}
+use native.Mathlib.Nat.{add-mul, mul-le-mul-right}
 use lib.Arith.{digits-lt, digits-div, digits-mod}
 use lib.Dec.{ltb}
 use lib.IntN.{ℤ, pos, _+ℤ_}
-use lib.ListN.{length, getD, set, length-set}
-use lib.Seq.{ext-getD}
+use lib.ListN.{length, getD, set}
 use borrow.Author.Tests.{ltb-true, ltb-false}
-use Rattle.grid.specs.Cube.{tab}
-use Rattle.grid.specs.Grid.{tab-length, tab-at}
 use Rattle.basics.specs.Paths.{ap₃}
-use Rattle.basics.specs.Lists.{front-more}
 use Rattle.ground_cell.specs.World.{Tall, heightAt, topAt, topWith, cellWith, cellUnder, baseCell, localY}
-use Rattle.ground_cell.specs.Base.{TopsNoted, columnHeight, columnBiome, baseNumbered, baseCells}
+use Rattle.ground_cell.specs.Base.{TopsNoted, columnHeight, columnBiome, baseNumbered}
 use Rattle.ground_cell.specs.Laws.{height-least, height-most, cell-told}
 use Rattle.ground_cell.specs.declared.world.World.{World}
 use Rattle.ground_cell.specs.declared.world.Frame.{Frame}
 use Rattle.ground_cell.specs.declared.world.Top.{Top}
-use Rattle.ground_lines.specs.Lines.{belowLevel, Flagged, DoneTo}
+use Rattle.grid_slabs.specs.Filled.{Filled, filled-none, filled-more, filled-then}
+use Rattle.ground_lines.specs.Lines.{belowLevel, Flagged, LaidLines}
 
--- r lines and n cells of the next are laid
-pub record Laying (w : World) (o : Frame) (r n : ℕ) (c : List ℕ) : Type 0 where
-  pub all : length c ≡ o .size * o .size * o .size
-  pub each : (i : ℕ) → i < r * o .size + n → getD c i 0 ≡ baseNumbered w o i
+-- n cells of line r are laid, and all else is as in q
+abbrev pub Laying : World → Frame → ℕ → ℕ → List ℕ → List ℕ → Type 0
+Laying w o r n q c = Filled (baseNumbered w o) (o .size * o .size * o .size) (r * o .size) (r * o .size + n) q c
 
 module _ (w : World) (o : Frame) where
-  pub laying-none : (r : ℕ) (c : List ℕ) → DoneTo w o r c → Laying w o r 0 c
-  laying-none r c d = record { all = d .all; each = λ (i : ℕ) h. d .each i (omega arith) }
+  pub laying-none : (r : ℕ) (c : List ℕ) → length c ≡ o .size * o .size * o .size → Laying w o r 0 c c
+  laying-none r c l =
+      let e : r * o .size ≡ r * o .size + 0 = omega arith in
+      subst (λ (u : ℕ). Filled (baseNumbered w o) (o .size * o .size * o .size) (r * o .size) u c c) e (filled-none (baseNumbered w o) _ _ c l)
 
-  pub laying-more : (r n : ℕ) (c : List ℕ) (v : ℕ) → r * o .size + n < o .size * o .size * o .size → v ≡ baseNumbered w o (r * o .size + n) → Laying w o r n c
-      → Laying w o r (n + 1) (set c (r * o .size + n) v)
-  laying-more r n c v h e l =
-      let k = r * o .size + n in
-      let a = l .all in
-      let held = front-more 0 (baseNumbered w o) c k v (omega arith) e (l .each) in
-      record { all = length-set c k v ∙ a; each = λ (i : ℕ) q. held i (omega arith) }
+  pub laying-more : (r n : ℕ) (q c : List ℕ) (v : ℕ) → r * o .size + n < o .size * o .size * o .size → v ≡ baseNumbered w o (r * o .size + n)
+      → Laying w o r n q c → Laying w o r (n + 1) q (set c (r * o .size + n) v)
+  laying-more r n q c v h e l =
+      let k : r * o .size + n + 1 ≡ r * o .size + (n + 1) = omega arith in
+      subst (λ (u : ℕ). Filled (baseNumbered w o) (o .size * o .size * o .size) (r * o .size) u q (set c (r * o .size + n) v)) k
+      (filled-more (baseNumbered w o) _ _ (r * o .size + n) q c v (omega arith) h e l)
 
-  pub laying-all : (r n : ℕ) (c : List ℕ) → n ≡ o .size → Laying w o r n c → DoneTo w o (r + 1) c
-  laying-all r n c e l =
-      let q : (r + 1) * o .size ≡ r * o .size + n = add-mul r 1 (o .size) ∙ (omega arith) in
-      record { all = l .all; each = λ (i : ℕ) h. l .each i (subst (λ (u : ℕ). i < u) q h) }
+  pub laying-all : (r n : ℕ) (q c : List ℕ) → n ≡ o .size → Laying w o r n q c → LaidLines w o r (r + 1) q c
+  laying-all r n q c e l =
+      let f : r * o .size + n ≡ (r + 1) * o .size = sym (add-mul r 1 (o .size) ∙ (omega arith)) in
+      subst (λ (u : ℕ). Filled (baseNumbered w o) (o .size * o .size * o .size) (r * o .size) u q c) f l
 
-  pub done-none : (c : List ℕ) → length c ≡ o .size * o .size * o .size → DoneTo w o 0 c
-  done-none c q = record { all = q; each = λ (i : ℕ) h. absurd (omega arith) }
+  pub lines-none : (a : ℕ) (c : List ℕ) → length c ≡ o .size * o .size * o .size → LaidLines w o a a c c
+  lines-none a c l = filled-none (baseNumbered w o) _ _ c l
 
-  pub done-all : (r : ℕ) (c : List ℕ) → r ≡ o .size * o .size → DoneTo w o r c → c ≡ baseCells w o
-  unfolding baseCells
-  done-all r c e d =
-      let n = o .size * o .size * o .size in
-      ext-getD 0 c (tab n (baseNumbered w o)) (d .all ∙ sym (tab-length n (baseNumbered w o)))
-      (λ (i : ℕ) h.
-      let k : i < n = subst (λ (u : ℕ). i < u) (d .all) h in
-      d .each i (subst (λ (u : ℕ). i < u * o .size) (sym e) k) ∙ sym (tab-at n (baseNumbered w o) i k))
+  -- lines, and then lines
+  pub lines-then : (a b d : ℕ) (q c e : List ℕ) → a ≤ b → b ≤ d → LaidLines w o a b q c → LaidLines w o b d c e → LaidLines w o a d q e
+  lines-then a b d q c e h k l m =
+      filled-then (baseNumbered w o) _ _ (b * o .size) (d * o .size) q c e (mul-le-mul-right (o .size) h) (mul-le-mul-right (o .size) k) l m
 
   -- line z * size + y, and cell x of it
   pub line-fits : (x y z : ℕ) → x < o .size → y < o .size → z < o .size → (z * o .size + y) * o .size + x < o .size * o .size * o .size

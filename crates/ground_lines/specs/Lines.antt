@@ -7,6 +7,7 @@ use lib.Dec.{ltb}
 use lib.IntN.{ℤ, pos, _+ℤ_, _-ℤ_}
 use lib.ListN.{length, getD}
 use lib.Signed.{ltZ}
+use Rattle.grid_slabs.specs.Filled.{Filled}
 use Rattle.ground_cell.specs.Caves.{carved}
 use Rattle.ground_cell.specs.World.{localY}
 use Rattle.ground_cell.specs.Base.{baseNumbered}
@@ -30,7 +31,6 @@ pub record Flagged (o : Frame) (y z : ℕ) (heights : List ℕ) (flags : List Bo
       → (ltZ (pos 0) (o .oy +ℤ pos y) && ltZ (o .oy +ℤ pos y) (pos (getD heights (z * o .size + x) 0) -ℤ pos 1)) ≡ true
       → getD flags x false ≡ carved (o .ox +ℤ pos x) (o .oy +ℤ pos y) (o .oz +ℤ pos z) (pos (getD heights (z * o .size + x) 0))
 
--- the first r lines are laid
-pub record DoneTo (w : World) (o : Frame) (r : ℕ) (c : List ℕ) : Type 0 where
-  pub all : length c ≡ o .size * o .size * o .size
-  pub each : (i : ℕ) → i < r * o .size → getD c i 0 ≡ baseNumbered w o i
+-- the lines from a on below r are laid, and all else is as in q
+abbrev pub LaidLines : World → Frame → ℕ → ℕ → List ℕ → List ℕ → Type 0
+LaidLines w o a r q c = Filled (baseNumbered w o) (o .size * o .size * o .size) (a * o .size) (r * o .size) q c

@@ -5,7 +5,8 @@ ghost use lib.ListN.{length};
 ghost use lib.Signed.{mag};
 ghost use Rattle.ground_cell.specs.World.{Tall, Near};
 ghost use Rattle.ground_cell.specs.Base.{TopsNoted};
-ghost use Rattle.ground_lines.specs.Lines.{belowLevel, Highest, Flagged, DoneTo};
+ghost use Rattle.ground_lines.specs.Lines.{belowLevel, Highest, Flagged, LaidLines};
+ghost use Rattle.grid.specs.Cube.{Cube};
 use ground_cell::world::Frame;
 use ground_cell::world::Top;
 use ground_cell::world::World;
@@ -60,8 +61,8 @@ pub fn lay_line(
         × (z < o .size)
         × TopsNoted w o (now heights) (now biomes)
         × Flagged o y z (now heights) (now flags)
-        × DoneTo w o (z * o .size + y) (now cells) ⌝ }
-    ensures { λ _. ⌜ DoneTo w o (z * o .size + y + 1) (now (cells .exit)) ⌝ }
+        × Cube (o .size) (now cells) ⌝ }
+    ensures { λ _. ⌜ LaidLines w o (z * o .size + y) (z * o .size + y + 1) (now (cells .entry)) (now (cells .exit)) ⌝ }
 {
     let size = o.size;
     let wy = along(o.oy, y);

@@ -8,8 +8,8 @@ use lib.Ieee.{Float}
 use lib.ListN.{length, getD}
 use borrow.Author.Tests.{leb-true, ltb-true, le-leb, lt-ltb}
 use Rattle.cave_rows.specs.Fields.{Hollow}
-use Rattle.ground_lines.specs.Lines.{Flagged, DoneTo}
-use Rattle.ground_lines.specs.Laws.{below-most}
+use Rattle.ground_lines.specs.Lines.{Flagged, LaidLines}
+use Rattle.ground_lines.specs.Laws.{lines-then, below-most}
 use Rattle.ground_lines.specs.Range.{in-row}
 use Rattle.basics.specs.Bools.{and-both}
 use Rattle.ground_cell.specs.declared.world.World.{World}
@@ -38,6 +38,7 @@ pub high-most : (o : Frame) (z lo hi from : ℕ) (heights : List ℕ) (cuts : Li
     → Ready o z lo hi from heights cuts floors eases edges → hi ≤ o .size
 high-most o z lo hi from heights cuts floors eases edges r = rw (r .high) (below-most (o .size) (o .oy) (r .top - 1))
 
--- the same lines by another number
-pub done-at : {w : World} {o : Frame} {r s : ℕ} {c : List ℕ} → r ≡ s → DoneTo w o r c → DoneTo w o s c
-done-at {w} {o} {c = c} e d = subst (λ (u : ℕ). DoneTo w o u c) e d
+-- a line more, by another number
+pub lines-next : (w : World) (o : Frame) (a b d r : ℕ) {q c e : List ℕ} → d ≡ r → a ≤ b → b ≤ d
+    → LaidLines w o a b q c → LaidLines w o b d c e → LaidLines w o a r q e
+lines-next w o a b d r {q} {c} {e} f h k l m = subst (λ (u : ℕ). LaidLines w o a u q e) f (lines-then w o a b d q c e h k l m)

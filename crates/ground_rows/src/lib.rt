@@ -6,7 +6,8 @@ ghost use Rattle.noise_tables.specs.Places as places;
 ghost use Rattle.cave_tables.specs.Coords.{caveCoord};
 ghost use Rattle.ground_cell.specs.World.{Tall, Near};
 ghost use Rattle.ground_cell.specs.Base.{TopsNoted};
-ghost use Rattle.ground_lines.specs.Lines.{DoneTo, Flagged};
+ghost use Rattle.ground_lines.specs.Lines.{LaidLines, Flagged};
+ghost use Rattle.grid.specs.Cube.{Cube};
 ghost use Rattle.ground_rows.specs.Rows.{RowLent, Ready, RowBegun};
 use cave_ravines::note_cuts;
 use cave_rows::first_layers;
@@ -70,8 +71,8 @@ fn lay_levels(
         × TopsNoted w o (now heights) (now biomes)
         × Ready o z lo hi lo (now heights) (now cuts) (now floors) (now eases) (now edges)
         × RowLent o (now floors) (now eases) (now edges) (now flags)
-        × DoneTo w o (z * o .size) (now cells) ⌝ }
-    ensures { λ _. ⌜ DoneTo w o (z * o .size + o .size) (now (cells .exit)) ⌝ }
+        × Cube (o .size) (now cells) ⌝ }
+    ensures { λ _. ⌜ LaidLines w o (z * o .size) (z * o .size + o .size) (now (cells .entry)) (now (cells .exit)) ⌝ }
 {
     let mut from = lo;
     let mut y = 0;
@@ -144,8 +145,8 @@ pub fn lay_row(
         × places.Noted (o .size) 27 (caveCoord o) (now floors) (now eases)
         × RowLent o (now floors) (now eases) (now edges) (now flags)
         × (o .size ≤ length (now cuts))
-        × DoneTo w o (z * o .size) (now cells) ⌝ }
-    ensures { λ _. ⌜ DoneTo w o (z * o .size + o .size) (now (cells .exit)) ⌝ }
+        × Cube (o .size) (now cells) ⌝ }
+    ensures { λ _. ⌜ LaidLines w o (z * o .size) (z * o .size + o .size) (now (cells .entry)) (now (cells .exit)) ⌝ }
 {
     let size = o.size;
     let top = row_top(z, size, heights);

@@ -1,10 +1,9 @@
 -- Where a chunk lies wholly below the ground (SCOPE 4.9), or wholly above everything (4.7). Assumes nothing.
 use Prim.Native.Nat.{ℕ}
 use mathlib.Core.Bool.{Bool, _&&_}
-use mathlib.Core.List.{List}
 use lib.IntN.{pos, negsuc, _+ℤ_}
 use lib.Signed.{leZ}
-use Rattle.grid.specs.Cube.{tab}
+unfoldable pub use Rattle.grid.specs.Cube.{allOf}
 use Rattle.ground_cell.specs.declared.world.World.{World}
 use Rattle.ground_cell.specs.declared.world.Frame.{Frame}
 
@@ -22,7 +21,3 @@ deepIn o = leZ (o .oy +ℤ pos (o .size)) (negsuc deepEnd)
 -- no lower than the sea, nor than the level above a boulder on the highest column
 unfoldable pub skyIn : World → Frame → Bool
 skyIn w o = leZ (w .«sea_level») (o .oy) && leZ (w .«max_height» +ℤ pos boulderReach) (o .oy)
-
--- n cells of one block
-unfoldable pub allOf : ℕ → ℕ → List ℕ
-allOf n id = tab n (λ (i : ℕ). id)

@@ -1,7 +1,6 @@
 -- `column_tops::note_tops` meets its contract. Assumes nothing.
 use mathlib.Core.Path.{sym, subst}
 use Prim.Native.Nat.{ℕ, _≤_}
-use native.Mathlib.Omega.{arith}
 use borrow.Author.Needs.{needs}
 use Rattle.column_tops.proofs.note_tops.Statement.{statement}
 use Rattle.column_tops.proofs.note_tops.Tie as tie
@@ -15,39 +14,27 @@ note-xs-requires c κs = search needs
 slice-aggregate-note-rows : tie.Need-slice-aggregate-note-rows
 slice-aggregate-note-rows c = search needs
 
-slice-aggregate-note-rows-2 : tie.Need-slice-aggregate-note-rows-2
-slice-aggregate-note-rows-2 c = search needs
-
-slice-aggregate-note-rows-3 : tie.Need-slice-aggregate-note-rows-3
-slice-aggregate-note-rows-3 c = search needs
-
 note-rows-requires : tie.Need-note-rows-requires
 note-rows-requires c κs = search needs
 
 slice-aggregate-note-each : tie.Need-slice-aggregate-note-each
 slice-aggregate-note-each c = search needs
 
-slice-aggregate-note-each-2 : tie.Need-slice-aggregate-note-each-2
-slice-aggregate-note-each-2 c = search needs
-
-slice-aggregate-note-each-3 : tie.Need-slice-aggregate-note-each-3
-slice-aggregate-note-each-3 c = search needs
-
 note-each-requires : tie.Need-note-each-requires
 note-each-requires c κs =
-    let s = c .before .before .before .before .before .before .before .before .before .before .before .before .before .before .before .before in
-    let x = c .before .before .before .before .before .before .before .before .before .before .before .before .note-xs in
-    let r = c .before .before .before .before .before .before .before .note-rows in (
+    let s = c .before .before .before .before .before .before .before .before .before .before .before .before .before .before .before .before .before .before .before .before in
+    let x = c .before .before .before .before .before .before .before .before .before .before .before .before .before .before .note-xs in
+    let r = c .before .before .before .before .before .before .before .before .before .note-rows in (
       s .pre .0,
       s .pre .1,
       record {
         places = x .ensures;
         told = r .ensures;
-        long = subst (λ (u : ℕ). 2304 ≤ u) (sym (r .kept .1 .1 .0)) (omega arith);
-        longer = subst (λ (u : ℕ). 2304 ≤ u) (sym (r .kept .1 .1 .1 .0)) (omega arith);
+        long = subst (λ (u : ℕ). 2304 ≤ u) (sym (r .kept .1 .1 .0)) (s .pre .2);
+        longer = subst (λ (u : ℕ). 2304 ≤ u) (sym (r .kept .1 .1 .1 .0)) (s .pre .3);
       },
-      s .pre .2,
-      s .pre .3,
+      s .pre .4,
+      s .pre .5,
     )
 
 same-length : tie.Need-same-length
@@ -55,6 +42,12 @@ same-length c = search needs
 
 same-length-2 : tie.Need-same-length-2
 same-length-2 c = search needs
+
+same-length-3 : tie.Need-same-length-3
+same-length-3 c = search needs
+
+same-length-4 : tie.Need-same-length-4
+same-length-4 c = search needs
 
 returns : tie.Need-returns
 returns c = search needs
@@ -66,13 +59,11 @@ note-tops-spec =
     slice-aggregate-note-xs
     note-xs-requires
     slice-aggregate-note-rows
-    slice-aggregate-note-rows-2
-    slice-aggregate-note-rows-3
     note-rows-requires
     slice-aggregate-note-each
-    slice-aggregate-note-each-2
-    slice-aggregate-note-each-3
     note-each-requires
     same-length
     same-length-2
+    same-length-3
+    same-length-4
     returns)

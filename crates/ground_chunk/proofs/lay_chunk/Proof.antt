@@ -4,17 +4,13 @@ use mathlib.Core.Path.{_≡_, sym, ap, _∙_}
 use Prim.Native.Nat.{ℕ}
 use lib.ListN.{length}
 use Rattle.grid.specs.Count.{nonAirCount}
-use Rattle.grid.specs.Grid.{tab-length}
+use Rattle.grid.specs.Grid.{all-long}
 use Rattle.ground_uniform.specs.Place.{allOf}
 use Rattle.ground_uniform.specs.Counts.{stone-count, air-count}
 use Rattle.ground_uniform.specs.Laws.{ground-deep, ground-sky}
 use Rattle.ground_chunk.specs.Laid.{groundIn}
 use Rattle.ground_chunk.proofs.lay_chunk.Statement.{statement}
 use Rattle.ground_chunk.proofs.lay_chunk.Tie as tie
-
-all-length : (n : ℕ) → length (allOf n 1) ≡ n
-unfolding allOf
-all-length n = tab-length n (λ (i : ℕ). 1)
 
 is-deep-requires : tie.Need-is-deep-requires
 is-deep-requires c κs = search needs
@@ -35,7 +31,7 @@ returns c =
     let n = length (s .args .cells .now) in
     let filled : c .before .before .fill .last .0 ≡ allOf n 1 = c .before .before .fill .ensures in
     let laid = filled ∙ ap (λ (n : ℕ). allOf n 1) (s .pre .2 .all) ∙ sym (ground-deep w o (s .pre .0) (s .pre .1) deep) in
-    (laid, ap length filled ∙ all-length n ∙ sym (stone-count n) ∙ ap nonAirCount (sym filled ∙ laid))
+    (laid, ap length filled ∙ all-long n 1 ∙ sym (stone-count n) ∙ ap nonAirCount (sym filled ∙ laid))
 
 is-sky-requires : tie.Need-is-sky-requires
 is-sky-requires c κs = search needs

@@ -15,18 +15,18 @@ use Rattle.grid.specs.Cube.{steps}
 use Rattle.grid.specs.Grid.{steps-more, steps-none}
 use Rattle.ground_cell.specs.World.{localY}
 use Rattle.basics.specs.Words.{again, back}
-use Rattle.ground_crown.specs.Crown.{layerOf, canopyStep, canopyOf}
+use Rattle.ground_crown.specs.Slabs.{layerIn, canopyStepIn, canopyIn}
 use Rattle.ground_crown.proofs.Counts.{layer-level}
 use Rattle.ground_crown.proofs.Radii.{few}
 use Rattle.ground_crown.proofs.canopy.Statement.{statement}
 use Rattle.ground_crown.proofs.canopy.Tie as tie
 
 abbrev Inv-loop : tie.InvT-loop
-Inv-loop cells₀ size oy x z wx wz top r n m l₀ cells l =
-    (l ≤ n + 1) × (length cells ≡ length cells₀) × (cells ≡ steps l (canopyStep size (toZ w32 oy) x z (toZ w32 wx) (toZ w32 wz) (pos top) r n) cells₀)
+Inv-loop cells₀ size lo hi oy x z wx wz top r n m l₀ cells l =
+    (l ≤ n + 1) × (length cells ≡ length cells₀) × (cells ≡ steps l (canopyStepIn lo hi size (toZ w32 oy) x z (toZ w32 wx) (toZ w32 wz) (pos top) r n) cells₀)
 
 abbrev μ-loop : tie.MeasureT-loop
-μ-loop cells₀ size oy x z wx wz top r n m l₀ cells l = n + 1 - l
+μ-loop cells₀ size lo hi oy x z wx wz top r n m l₀ cells l = n + 1 - l
 
 add-m : tie.Need-add-m Inv-loop μ-loop
 add-m c =
@@ -36,7 +36,7 @@ add-m c =
     let n4 : a .n ≤ 4 = fw .2 in
     let t1 : 1 ≤ a .top = s .pre .5 in
     let t2 : a .top < 4294967296 = s .pre .6 in
-    let f = canopyStep (a .size) (again w32 (a .oy)) (a .x) (a .z) (again w32 (a .wx)) (again w32 (a .wz)) (pos (a .top)) (a .r) (a .n) in
+    let f = canopyStepIn (a .lo) (a .hi) (a .size) (again w32 (a .oy)) (a .x) (a .z) (again w32 (a .wx)) (again w32 (a .wz)) (pos (a .top)) (a .r) (a .n) in
     omega arith
 
 loop-holds : tie.Need-loop-holds Inv-loop μ-loop
@@ -52,7 +52,7 @@ leaf-radius-requires c κs =
     let n4 : a .n ≤ 4 = fw .2 in
     let t1 : 1 ≤ a .top = s .pre .5 in
     let t2 : a .top < 4294967296 = s .pre .6 in
-    let f = canopyStep (a .size) (again w32 (a .oy)) (a .x) (a .z) (again w32 (a .wx)) (again w32 (a .wz)) (pos (a .top)) (a .r) (a .n) in
+    let f = canopyStepIn (a .lo) (a .hi) (a .size) (again w32 (a .oy)) (a .x) (a .z) (again w32 (a .wx)) (again w32 (a .wz)) (pos (a .top)) (a .r) (a .n) in
     let lt : lo .l < a .n + 1 = c .loop-test .taken in
     (s .pre .4, omega arith)
 
@@ -66,7 +66,7 @@ add-local-y c =
     let n4 : a .n ≤ 4 = fw .2 in
     let t1 : 1 ≤ a .top = s .pre .5 in
     let t2 : a .top < 4294967296 = s .pre .6 in
-    let f = canopyStep (a .size) (again w32 (a .oy)) (a .x) (a .z) (again w32 (a .wx)) (again w32 (a .wz)) (pos (a .top)) (a .r) (a .n) in
+    let f = canopyStepIn (a .lo) (a .hi) (a .size) (again w32 (a .oy)) (a .x) (a .z) (again w32 (a .wx)) (again w32 (a .wz)) (pos (a .top)) (a .r) (a .n) in
     let lt : lo .l < a .n + 1 = c .before .loop-test .taken in
     omega arith
 
@@ -80,7 +80,7 @@ sub-local-y c =
     let n4 : a .n ≤ 4 = fw .2 in
     let t1 : 1 ≤ a .top = s .pre .5 in
     let t2 : a .top < 4294967296 = s .pre .6 in
-    let f = canopyStep (a .size) (again w32 (a .oy)) (a .x) (a .z) (again w32 (a .wx)) (again w32 (a .wz)) (pos (a .top)) (a .r) (a .n) in
+    let f = canopyStepIn (a .lo) (a .hi) (a .size) (again w32 (a .oy)) (a .x) (a .z) (again w32 (a .wx)) (again w32 (a .wz)) (pos (a .top)) (a .r) (a .n) in
     let lt : lo .l < a .n + 1 = c .before .loop-test .taken in
     omega arith
 
@@ -94,7 +94,7 @@ local-y-requires c κs =
     let n4 : a .n ≤ 4 = fw .2 in
     let t1 : 1 ≤ a .top = s .pre .5 in
     let t2 : a .top < 4294967296 = s .pre .6 in
-    let f = canopyStep (a .size) (again w32 (a .oy)) (a .x) (a .z) (again w32 (a .wx)) (again w32 (a .wz)) (pos (a .top)) (a .r) (a .n) in
+    let f = canopyStepIn (a .lo) (a .hi) (a .size) (again w32 (a .oy)) (a .x) (a .z) (again w32 (a .wx)) (again w32 (a .wz)) (pos (a .top)) (a .r) (a .n) in
     let lt : lo .l < a .n + 1 = c .before .loop-test .taken in
     ((subst (λ (u : ℤ). mag u ≤ 1000000) (sym (back (a .oy) (s .pre .3))) (s .pre .3)), omega arith)
 
@@ -108,7 +108,7 @@ layer-requires c κs =
     let n4 : a .n ≤ 4 = fw .2 in
     let t1 : 1 ≤ a .top = s .pre .5 in
     let t2 : a .top < 4294967296 = s .pre .6 in
-    let f = canopyStep (a .size) (again w32 (a .oy)) (a .x) (a .z) (again w32 (a .wx)) (again w32 (a .wz)) (pos (a .top)) (a .r) (a .n) in
+    let f = canopyStepIn (a .lo) (a .hi) (a .size) (again w32 (a .oy)) (a .x) (a .z) (again w32 (a .wx)) (again w32 (a .wz)) (pos (a .top)) (a .r) (a .n) in
     let lt : lo .l < a .n + 1 = c .before .before .before .loop-test .taken in
     (record { most = s .pre .0 .most; all = lo .inv .1 ∙ s .pre .0 .all }, s .pre .1, s .pre .2, c .before .before .leaf-radius .ensures .1, omega arith)
 
@@ -122,7 +122,7 @@ add-l c =
     let n4 : a .n ≤ 4 = fw .2 in
     let t1 : 1 ≤ a .top = s .pre .5 in
     let t2 : a .top < 4294967296 = s .pre .6 in
-    let f = canopyStep (a .size) (again w32 (a .oy)) (a .x) (a .z) (again w32 (a .wx)) (again w32 (a .wz)) (pos (a .top)) (a .r) (a .n) in
+    let f = canopyStepIn (a .lo) (a .hi) (a .size) (again w32 (a .oy)) (a .x) (a .z) (again w32 (a .wx)) (again w32 (a .wz)) (pos (a .top)) (a .r) (a .n) in
     let lt : lo .l < a .n + 1 = c .before .before .before .before .before .before .loop-test .taken in
     omega arith
 
@@ -136,12 +136,12 @@ loop-less c =
     let n4 : a .n ≤ 4 = fw .2 in
     let t1 : 1 ≤ a .top = s .pre .5 in
     let t2 : a .top < 4294967296 = s .pre .6 in
-    let f = canopyStep (a .size) (again w32 (a .oy)) (a .x) (a .z) (again w32 (a .wx)) (again w32 (a .wz)) (pos (a .top)) (a .r) (a .n) in
+    let f = canopyStepIn (a .lo) (a .hi) (a .size) (again w32 (a .oy)) (a .x) (a .z) (again w32 (a .wx)) (again w32 (a .wz)) (pos (a .top)) (a .r) (a .n) in
     let lt : lo .l < a .n + 1 = c .before .before .before .before .before .before .loop-test .taken in
     omega arith
 
 loop-again : tie.Need-loop-again Inv-loop μ-loop
-unfolding canopyStep
+unfolding canopyStepIn
 loop-again c =
     let s = c .before .before .before .before .before .before .before .before .before in
     let a = s .args in
@@ -151,15 +151,15 @@ loop-again c =
     let n4 : a .n ≤ 4 = fw .2 in
     let t1 : 1 ≤ a .top = s .pre .5 in
     let t2 : a .top < 4294967296 = s .pre .6 in
-    let f = canopyStep (a .size) (again w32 (a .oy)) (a .x) (a .z) (again w32 (a .wx)) (again w32 (a .wz)) (pos (a .top)) (a .r) (a .n) in
+    let f = canopyStepIn (a .lo) (a .hi) (a .size) (again w32 (a .oy)) (a .x) (a .z) (again w32 (a .wx)) (again w32 (a .wz)) (pos (a .top)) (a .r) (a .n) in
     let lt : lo .l < a .n + 1 = c .before .before .before .before .before .before .loop-test .taken in
-    (omega arith, c .before .before .layer .kept .0 ∙ lo .inv .1, c .before .before .layer .ensures ∙ ap₃ (λ (y q : ℕ) (d : List ℕ). layerOf (a .size) (a .x) (a .z) (again w32 (a .wx)) (again w32 (a .wz)) y q (lo .l) d) (c .before .before .before .before .local-y .ensures ∙ ap (localY (a .size) (again w32 (a .oy))) (layer-level (a .top) (lo .l) t1)) (c .before .before .before .before .before .leaf-radius .ensures .0) (lo .inv .2) ∙ steps-more (lo .l) f (a .cells .now))
+    (omega arith, c .before .before .layer .kept .0 ∙ lo .inv .1, c .before .before .layer .ensures ∙ ap₃ (λ (y q : ℕ) (d : List ℕ). layerIn (a .lo) (a .hi) (a .size) (a .x) (a .z) (again w32 (a .wx)) (again w32 (a .wz)) y q (lo .l) d) (c .before .before .before .before .local-y .ensures ∙ ap (localY (a .size) (again w32 (a .oy))) (layer-level (a .top) (lo .l) t1)) (c .before .before .before .before .before .leaf-radius .ensures .0) (lo .inv .2) ∙ steps-more (lo .l) f (a .cells .now))
 
 same-length : tie.Need-same-length Inv-loop μ-loop
 same-length c = c .before .loop .inv .1
 
 returns : tie.Need-returns Inv-loop μ-loop
-unfolding canopyOf
+unfolding canopyIn
 returns c =
     let s = c .before .before .before in
     let a = s .args in
@@ -169,10 +169,10 @@ returns c =
     let n4 : a .n ≤ 4 = fw .2 in
     let t1 : 1 ≤ a .top = s .pre .5 in
     let t2 : a .top < 4294967296 = s .pre .6 in
-    let f = canopyStep (a .size) (again w32 (a .oy)) (a .x) (a .z) (again w32 (a .wx)) (again w32 (a .wz)) (pos (a .top)) (a .r) (a .n) in
+    let f = canopyStepIn (a .lo) (a .hi) (a .size) (again w32 (a .oy)) (a .x) (a .z) (again w32 (a .wx)) (again w32 (a .wz)) (pos (a .top)) (a .r) (a .n) in
     let e : lo .l ≡ a .n + 1 = (let t = c .loop-test .left in omega arith) in
     lo .inv .2
-    ∙ ap₄ (λ (k : ℕ) (o u v : ℤ). steps k (canopyStep (a .size) o (a .x) (a .z) u v (pos (a .top)) (a .r) (a .n)) (a .cells .now)) e (back (a .oy) (s .pre .3)) (toZ-ofZ w32 (a .wx) (s .fits .wx)) (toZ-ofZ w32 (a .wz) (s .fits .wz))
+    ∙ ap₄ (λ (k : ℕ) (o u v : ℤ). steps k (canopyStepIn (a .lo) (a .hi) (a .size) o (a .x) (a .z) u v (pos (a .top)) (a .r) (a .n)) (a .cells .now)) e (back (a .oy) (s .pre .3)) (toZ-ofZ w32 (a .wx) (s .fits .wx)) (toZ-ofZ w32 (a .wz) (s .fits .wz))
 
 pub canopy-spec : {M : Type 1} → statement M
 canopy-spec =

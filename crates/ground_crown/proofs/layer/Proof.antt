@@ -13,16 +13,16 @@ use Rattle.basics.specs.Paths.{ap₃}
 use Rattle.grid.specs.Cube.{steps}
 use Rattle.grid.specs.Grid.{steps-more, steps-none}
 use Rattle.basics.specs.Words.{again}
-use Rattle.ground_crown.specs.Crown.{leafStep, layerStep, layerOf}
+use Rattle.ground_crown.specs.Slabs.{leafStepIn, layerStepIn, layerIn}
 use Rattle.ground_crown.proofs.layer.Statement.{statement}
 use Rattle.ground_crown.proofs.layer.Tie as tie
 
 abbrev Inv-loop : tie.InvT-loop
-Inv-loop cells₀ size x z wx wz y r l w n j₀ cells j =
-    (j ≤ n) × (length cells ≡ length cells₀) × (cells ≡ steps j (layerStep size x z (toZ w32 wx) (toZ w32 wz) y r l) cells₀)
+Inv-loop cells₀ size lo hi x z wx wz y r l w n j₀ cells j =
+    (j ≤ n) × (length cells ≡ length cells₀) × (cells ≡ steps j (layerStepIn lo hi size x z (toZ w32 wx) (toZ w32 wz) y r l) cells₀)
 
 abbrev μ-loop : tie.MeasureT-loop
-μ-loop cells₀ size x z wx wz y r l w n j₀ cells j = n - j
+μ-loop cells₀ size lo hi x z wx wz y r l w n j₀ cells j = n - j
 
 mul-w : tie.Need-mul-w Inv-loop μ-loop
 mul-w c =
@@ -54,14 +54,14 @@ mul-n c =
 loop-holds : tie.Need-loop-holds Inv-loop μ-loop
 loop-holds c = (omega arith, refl, steps-none _ _)
 
-div-leaf : tie.Need-div-leaf Inv-loop μ-loop
-div-leaf c = omega arith
+div-leaf-in : tie.Need-div-leaf-in Inv-loop μ-loop
+div-leaf-in c = omega arith
 
-rem-leaf : tie.Need-rem-leaf Inv-loop μ-loop
-rem-leaf c = omega arith
+rem-leaf-in : tie.Need-rem-leaf-in Inv-loop μ-loop
+rem-leaf-in c = omega arith
 
-leaf-requires : tie.Need-leaf-requires Inv-loop μ-loop
-leaf-requires c κs =
+leaf-in-requires : tie.Need-leaf-in-requires Inv-loop μ-loop
+leaf-in-requires c κs =
     let s = c .before .before .before .before in
     let a = s .args in
     let lo = c .before .before .loop in
@@ -69,7 +69,7 @@ leaf-requires c κs =
     let w = 2 * a .r + 1 in
     let q : 2 * a .r + 1 ≤ 9 = omega arith in
     let g : (2 * a .r + 1) * (2 * a .r + 1) ≤ 9 * 9 = mul-le-mul q q in
-    let f = layerStep (a .size) (a .x) (a .z) (again w32 (a .wx)) (again w32 (a .wz)) (a .y) (a .r) (a .l) in
+    let f = layerStepIn (a .lo) (a .hi) (a .size) (a .x) (a .z) (again w32 (a .wx)) (again w32 (a .wz)) (a .y) (a .r) (a .l) in
     let i0 : lo .j ≤ (2 * a .r + 1) * (2 * a .r + 1) = lo .inv .0 in
     let lt : lo .j < (2 * a .r + 1) * (2 * a .r + 1) = c .before .loop-test .taken in
     let dv = div-le-self (lo .j) (2 * a .r + 1) in
@@ -85,7 +85,7 @@ add-j c =
     let w = 2 * a .r + 1 in
     let q : 2 * a .r + 1 ≤ 9 = omega arith in
     let g : (2 * a .r + 1) * (2 * a .r + 1) ≤ 9 * 9 = mul-le-mul q q in
-    let f = layerStep (a .size) (a .x) (a .z) (again w32 (a .wx)) (again w32 (a .wz)) (a .y) (a .r) (a .l) in
+    let f = layerStepIn (a .lo) (a .hi) (a .size) (a .x) (a .z) (again w32 (a .wx)) (again w32 (a .wz)) (a .y) (a .r) (a .l) in
     let i0 : lo .j ≤ (2 * a .r + 1) * (2 * a .r + 1) = lo .inv .0 in
     let lt : lo .j < (2 * a .r + 1) * (2 * a .r + 1) = c .before .before .before .before .loop-test .taken in
     omega arith
@@ -99,13 +99,13 @@ loop-less c =
     let w = 2 * a .r + 1 in
     let q : 2 * a .r + 1 ≤ 9 = omega arith in
     let g : (2 * a .r + 1) * (2 * a .r + 1) ≤ 9 * 9 = mul-le-mul q q in
-    let f = layerStep (a .size) (a .x) (a .z) (again w32 (a .wx)) (again w32 (a .wz)) (a .y) (a .r) (a .l) in
+    let f = layerStepIn (a .lo) (a .hi) (a .size) (a .x) (a .z) (again w32 (a .wx)) (again w32 (a .wz)) (a .y) (a .r) (a .l) in
     let i0 : lo .j ≤ (2 * a .r + 1) * (2 * a .r + 1) = lo .inv .0 in
     let lt : lo .j < (2 * a .r + 1) * (2 * a .r + 1) = c .before .before .before .before .loop-test .taken in
     omega arith
 
 loop-again : tie.Need-loop-again Inv-loop μ-loop
-unfolding layerStep
+unfolding layerStepIn
 loop-again c =
     let s = c .before .before .before .before .before .before .before in
     let a = s .args in
@@ -114,16 +114,16 @@ loop-again c =
     let w = 2 * a .r + 1 in
     let q : 2 * a .r + 1 ≤ 9 = omega arith in
     let g : (2 * a .r + 1) * (2 * a .r + 1) ≤ 9 * 9 = mul-le-mul q q in
-    let f = layerStep (a .size) (a .x) (a .z) (again w32 (a .wx)) (again w32 (a .wz)) (a .y) (a .r) (a .l) in
+    let f = layerStepIn (a .lo) (a .hi) (a .size) (a .x) (a .z) (again w32 (a .wx)) (again w32 (a .wz)) (a .y) (a .r) (a .l) in
     let i0 : lo .j ≤ (2 * a .r + 1) * (2 * a .r + 1) = lo .inv .0 in
     let lt : lo .j < (2 * a .r + 1) * (2 * a .r + 1) = c .before .before .before .before .loop-test .taken in
-    (omega arith, c .before .before .leaf .kept .0 ∙ lo .inv .1, c .before .before .leaf .ensures ∙ ap (leafStep (a .size) (a .x) (a .z) (again w32 (a .wx)) (again w32 (a .wz)) (a .y) (a .r) (a .l) (lo .j / w) (lo .j % w)) (lo .inv .2) ∙ steps-more (lo .j) f (a .cells .now))
+    (omega arith, c .before .before .leaf-in .kept .0 ∙ lo .inv .1, c .before .before .leaf-in .ensures ∙ ap (leafStepIn (a .lo) (a .hi) (a .size) (a .x) (a .z) (again w32 (a .wx)) (again w32 (a .wz)) (a .y) (a .r) (a .l) (lo .j / w) (lo .j % w)) (lo .inv .2) ∙ steps-more (lo .j) f (a .cells .now))
 
 same-length : tie.Need-same-length Inv-loop μ-loop
 same-length c = c .before .loop .inv .1
 
 returns : tie.Need-returns Inv-loop μ-loop
-unfolding layerOf
+unfolding layerIn
 returns c =
     let s = c .before .before .before in
     let a = s .args in
@@ -132,11 +132,11 @@ returns c =
     let w = 2 * a .r + 1 in
     let q : 2 * a .r + 1 ≤ 9 = omega arith in
     let g : (2 * a .r + 1) * (2 * a .r + 1) ≤ 9 * 9 = mul-le-mul q q in
-    let f = layerStep (a .size) (a .x) (a .z) (again w32 (a .wx)) (again w32 (a .wz)) (a .y) (a .r) (a .l) in
+    let f = layerStepIn (a .lo) (a .hi) (a .size) (a .x) (a .z) (again w32 (a .wx)) (again w32 (a .wz)) (a .y) (a .r) (a .l) in
     let i0 : lo .j ≤ (2 * a .r + 1) * (2 * a .r + 1) = lo .inv .0 in
     let e : lo .j ≡ (2 * a .r + 1) * (2 * a .r + 1) = (let t = c .loop-test .left in omega arith) in
     lo .inv .2
-    ∙ ap₃ (λ (k : ℕ) (u v : ℤ). steps k (layerStep (a .size) (a .x) (a .z) u v (a .y) (a .r) (a .l)) (a .cells .now)) e (toZ-ofZ w32 (a .wx) (s .fits .wx)) (toZ-ofZ w32 (a .wz) (s .fits .wz))
+    ∙ ap₃ (λ (k : ℕ) (u v : ℤ). steps k (layerStepIn (a .lo) (a .hi) (a .size) (a .x) (a .z) u v (a .y) (a .r) (a .l)) (a .cells .now)) e (toZ-ofZ w32 (a .wx) (s .fits .wx)) (toZ-ofZ w32 (a .wz) (s .fits .wz))
 
 pub layer-spec : {M : Type 1} → statement M
 layer-spec =
@@ -148,9 +148,9 @@ layer-spec =
     add-w
     mul-n
     loop-holds
-    div-leaf
-    rem-leaf
-    leaf-requires
+    div-leaf-in
+    rem-leaf-in
+    leaf-in-requires
     add-j
     loop-less
     loop-again

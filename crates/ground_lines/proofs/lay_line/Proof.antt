@@ -16,7 +16,7 @@ use Rattle.ground_lines.proofs.lay_line.Statement.{statement}
 use Rattle.ground_lines.proofs.lay_line.Tie as tie
 
 abbrev Inv-loop : tie.InvT-loop
-Inv-loop w o y z heights biomes flags cells₀ size wy column first x₀ cells x = (x ≤ o .size) × Laying w o (z * o .size + y) x cells
+Inv-loop w o y z heights biomes flags cells₀ size wy column first x₀ cells x = (x ≤ o .size) × Laying w o (z * o .size + y) x cells₀ cells
 
 abbrev μ-loop : tie.MeasureT-loop
 μ-loop w o y z heights biomes flags cells₀ size wy column first x₀ cells x = o .size - x
@@ -73,7 +73,7 @@ mul-first c =
 loop-holds : tie.Need-loop-holds Inv-loop μ-loop
 loop-holds c =
     let s = c .before .before .before .before .before .before in
-    (omega arith, laying-none (s .args .w) (s .args .o) (s .args .z * s .args .o .size + s .args .y) (s .args .cells .now) (s .pre .6))
+    (omega arith, laying-none (s .args .w) (s .args .o) (s .args .z * s .args .o .size + s .args .y) (s .args .cells .now) (s .pre .6 .all))
 
 add-cells : tie.Need-add-cells Inv-loop μ-loop
 add-cells c =
@@ -304,7 +304,7 @@ loop-again c =
     c .cell .ensures
     ∙ ap₂ (λ (u h : ℤ). cellWith (topWith (getD (s .args .heights .now) (s .args .z * size + l .x) 0) (getD (s .args .biomes .now) (s .args .z * size + l .x) 0)) u h (getD (s .args .flags .now) (l .x) false)) (back (s .args .w .«sea_level») (s .pre .0 .sea)) wy
     ∙ cell-is (s .args .w) (s .args .o) (s .args .heights .now) (s .args .biomes .now) (s .args .flags .now) n (l .x) (s .args .y) (s .args .z) t (s .pre .2) (s .pre .3) (s .pre .5) in
-    (omega arith, laying-more (s .args .w) (s .args .o) (s .args .z * size + s .args .y) (l .x) (l .cells) _ i e (l .inv .1))
+    (omega arith, laying-more (s .args .w) (s .args .o) (s .args .z * size + s .args .y) (l .x) (s .args .cells .now) (l .cells) _ i e (l .inv .1))
 
 same-length : tie.Need-same-length Inv-loop μ-loop
 same-length c = c .before .before .loop .inv .1 .all ∙ sym (c .before .before .before .before .before .before .before .before .before .pre .6 .all)
@@ -315,7 +315,7 @@ returns c =
     let l = c .before .before .loop in
     let h : l .x ≤ s .args .o .size = l .inv .0 in
     let e : l .x ≡ s .args .o .size = (let t = c .if1 .left in omega arith) in
-    laying-all (s .args .w) (s .args .o) (s .args .z * s .args .o .size + s .args .y) (l .x) (l .cells) e (l .inv .1)
+    laying-all (s .args .w) (s .args .o) (s .args .z * s .args .o .size + s .args .y) (l .x) (s .args .cells .now) (l .cells) e (l .inv .1)
 
 pub lay-line-spec : {M : Type 1} → statement M
 lay-line-spec =

@@ -1,10 +1,10 @@
 -- `ground_trees::tree::place_trees` meets its contract. Assumes nothing.
 use mathlib.Core.Path.{_≡_, refl, ap, ap₂, _∙_}
-use Prim.Native.Nat.{ℕ, _-_, _*_, _/_, _%_, _≤_, _<_}
+use Prim.Native.Nat.{ℕ, _+_, _-_, _*_, _/_, _%_, _≤_, _<_}
 use native.Mathlib.Omega.{arith}
 use native.Mathlib.Nat.{mod-lt}
+use mathlib.Core.List.{List}
 use lib.IntN.{ℤ}
-use lib.Ieee.{lt}
 use lib.ListN.{length}
 use mir.Syntax.{w32}
 use mir.Val.{toZ}
@@ -13,64 +13,88 @@ use Rattle.grid.specs.Cube.{steps}
 use Rattle.grid.specs.Grid.{below-2, square-most, steps-more, steps-none}
 use Rattle.ground_cell.specs.World.{Near}
 use Rattle.basics.specs.Words.{again}
-use Rattle.ground_trees.specs.Features.{treeColumn, topIn, treeStep, treesOf}
+use Rattle.ground_trees.specs.Features.{topIn}
+use Rattle.grid_slabs.specs.Rows.{rows-fit, overRows}
+use Rattle.ground_trees.specs.Slabs.{treeColumnIn, treeStepIn}
 use Rattle.ground_trees.proofs.tree.place_trees.Statement.{statement}
 use Rattle.ground_trees.proofs.tree.place_trees.Tie as tie
 
 abbrev Inv-loop : tie.InvT-loop
-Inv-loop o sea heights biomes cells₀ size n k₀ cells k =
-    (k ≤ o .size * o .size) × (length cells ≡ length cells₀) × (cells ≡ steps k (treeStep o (toZ w32 sea) (topIn heights biomes)) cells₀)
+Inv-loop o sea first last lo hi heights biomes cells₀ size from n j₀ cells j =
+    (j ≤ (last - first) * o .size) × (length cells ≡ length cells₀) × (cells ≡ steps j (λ (i : ℕ). treeStepIn lo hi o (toZ w32 sea) (topIn heights biomes) (first * o .size + i)) cells₀)
 
 abbrev μ-loop : tie.MeasureT-loop
-μ-loop o sea heights biomes cells₀ size n k₀ cells k = o .size * o .size - k
+μ-loop o sea first last lo hi heights biomes cells₀ size from n j₀ cells j = (last - first) * o .size - j
+
+mul-from : tie.Need-mul-from Inv-loop μ-loop
+mul-from c =
+    let s = c .before .before .before in
+    let a = s .args in
+    let sq = square-most (a .o .size) (s .pre .0 .most) in
+    let fit = rows-fit (a .o .size) (a .first) (a .last) (s .pre .5) (s .pre .6) in
+    omega arith
+
+sub-n : tie.Need-sub-n Inv-loop μ-loop
+sub-n c = c .before .before .before .pre .5
 
 mul-n : tie.Need-mul-n Inv-loop μ-loop
-mul-n c = let s = c .before .before .before in let sq = square-most (s .args .o .size) (s .pre .0 .most) in omega arith
+mul-n c =
+    let s = c .before .before .before in
+    let a = s .args in
+    let sq = square-most (a .o .size) (s .pre .0 .most) in
+    let fit = rows-fit (a .o .size) (a .first) (a .last) (s .pre .5) (s .pre .6) in
+    omega arith
 
 loop-holds : tie.Need-loop-holds Inv-loop μ-loop
 loop-holds c = (omega arith, refl, steps-none _ _)
 
-mul-t11 : tie.Need-mul-t11 Inv-loop μ-loop
-mul-t11 c =
+add-k : tie.Need-add-k Inv-loop μ-loop
+add-k c =
     let s = c .before .before .before .before .before in
     let l = c .before .loop in
     let a = s .args in
     let o = a .o in
     let p : Near o = s .pre .0 in
-    let ps : 0 < o .size = p .some in
     let sq = square-most (o .size) (p .most) in
-    let f = treeStep o (again w32 (a .sea)) (topIn (a .heights .now) (a .biomes .now)) in
-    let i0 : l .k ≤ o .size * o .size = l .inv .0 in
-    let lt : l .k < o .size * o .size = c .loop-test .taken in
+    let fit = rows-fit (o .size) (a .first) (a .last) (s .pre .5) (s .pre .6) in
+    let lt : l .j < (a .last - a .first) * o .size = c .loop-test .taken in
     omega arith
 
-shared-slice-read-t13 : tie.Need-shared-slice-read-t13 Inv-loop μ-loop
-shared-slice-read-t13 c =
+mul-t18 : tie.Need-mul-t18 Inv-loop μ-loop
+mul-t18 c =
+    let s = c .before .before .before .before .before in
+    let l = c .before .loop in
+    let a = s .args in
+    let o = a .o in
+    let p : Near o = s .pre .0 in
+    let sq = square-most (o .size) (p .most) in
+    let fit = rows-fit (o .size) (a .first) (a .last) (s .pre .5) (s .pre .6) in
+    let lt : l .j < (a .last - a .first) * o .size = c .loop-test .taken in
+    omega arith
+
+shared-slice-read-t20 : tie.Need-shared-slice-read-t20 Inv-loop μ-loop
+shared-slice-read-t20 c =
     let s = c .before .before .before .before .before .before in
     let l = c .before .before .loop in
     let a = s .args in
     let o = a .o in
     let p : Near o = s .pre .0 in
-    let ps : 0 < o .size = p .some in
     let sq = square-most (o .size) (p .most) in
-    let f = treeStep o (again w32 (a .sea)) (topIn (a .heights .now) (a .biomes .now)) in
-    let i0 : l .k ≤ o .size * o .size = l .inv .0 in
-    let lt : l .k < o .size * o .size = c .before .loop-test .taken in
+    let fit = rows-fit (o .size) (a .first) (a .last) (s .pre .5) (s .pre .6) in
+    let lt : l .j < (a .last - a .first) * o .size = c .before .loop-test .taken in
     let g = s .pre .1 in
     omega arith
 
-shared-slice-read-t15 : tie.Need-shared-slice-read-t15 Inv-loop μ-loop
-shared-slice-read-t15 c =
+shared-slice-read-t22 : tie.Need-shared-slice-read-t22 Inv-loop μ-loop
+shared-slice-read-t22 c =
     let s = c .before .before .before .before .before .before .before in
     let l = c .before .before .before .loop in
     let a = s .args in
     let o = a .o in
     let p : Near o = s .pre .0 in
-    let ps : 0 < o .size = p .some in
     let sq = square-most (o .size) (p .most) in
-    let f = treeStep o (again w32 (a .sea)) (topIn (a .heights .now) (a .biomes .now)) in
-    let i0 : l .k ≤ o .size * o .size = l .inv .0 in
-    let lt : l .k < o .size * o .size = c .before .before .loop-test .taken in
+    let fit = rows-fit (o .size) (a .first) (a .last) (s .pre .5) (s .pre .6) in
+    let lt : l .j < (a .last - a .first) * o .size = c .before .before .loop-test .taken in
     let g = s .pre .2 in
     omega arith
 
@@ -87,25 +111,23 @@ tree-column-requires c κs =
     let a = s .args in
     let o = a .o in
     let p : Near o = s .pre .0 in
-    let ps : 0 < o .size = p .some in
     let sq = square-most (o .size) (p .most) in
-    let f = treeStep o (again w32 (a .sea)) (topIn (a .heights .now) (a .biomes .now)) in
-    let i0 : l .k ≤ o .size * o .size = l .inv .0 in
-    let lt : l .k < o .size * o .size = c .before .before .before .loop-test .taken in
-    (record { most = p .most; all = l .inv .1 ∙ s .pre .3 .all }, p, s .pre .4 (l .k) lt, c .before .before .shared-slice-known3 .given (l .k) .fits, mod-lt (l .k) ps, below-2 (o .size) (l .k) lt)
+    let fit = rows-fit (o .size) (a .first) (a .last) (s .pre .5) (s .pre .6) in
+    let lt : l .j < (a .last - a .first) * o .size = c .before .before .before .loop-test .taken in
+    let k = a .first * o .size + l .j in
+    let h : a .first * o .size + l .j < o .size * o .size = omega arith in
+    (record { most = p .most; all = l .inv .1 ∙ s .pre .3 .all }, p, s .pre .4 (a .first * o .size + l .j) h, c .before .before .shared-slice-known3 .given (a .first * o .size + l .j) .fits, mod-lt (a .first * o .size + l .j) (p .some), below-2 (o .size) (a .first * o .size + l .j) h)
 
-add-k : tie.Need-add-k Inv-loop μ-loop
-add-k c =
+add-j : tie.Need-add-j Inv-loop μ-loop
+add-j c =
     let s = c .before .before .before .before .before .before .before .before .before .before .before in
     let l = c .before .before .before .before .before .before .before .loop in
     let a = s .args in
     let o = a .o in
     let p : Near o = s .pre .0 in
-    let ps : 0 < o .size = p .some in
     let sq = square-most (o .size) (p .most) in
-    let f = treeStep o (again w32 (a .sea)) (topIn (a .heights .now) (a .biomes .now)) in
-    let i0 : l .k ≤ o .size * o .size = l .inv .0 in
-    let lt : l .k < o .size * o .size = c .before .before .before .before .before .before .loop-test .taken in
+    let fit = rows-fit (o .size) (a .first) (a .last) (s .pre .5) (s .pre .6) in
+    let lt : l .j < (a .last - a .first) * o .size = c .before .before .before .before .before .before .loop-test .taken in
     omega arith
 
 loop-less : tie.Need-loop-less Inv-loop μ-loop
@@ -115,46 +137,40 @@ loop-less c =
     let a = s .args in
     let o = a .o in
     let p : Near o = s .pre .0 in
-    let ps : 0 < o .size = p .some in
     let sq = square-most (o .size) (p .most) in
-    let f = treeStep o (again w32 (a .sea)) (topIn (a .heights .now) (a .biomes .now)) in
-    let i0 : l .k ≤ o .size * o .size = l .inv .0 in
-    let lt : l .k < o .size * o .size = c .before .before .before .before .before .before .loop-test .taken in
+    let fit = rows-fit (o .size) (a .first) (a .last) (s .pre .5) (s .pre .6) in
+    let lt : l .j < (a .last - a .first) * o .size = c .before .before .before .before .before .before .loop-test .taken in
     omega arith
 
 loop-again : tie.Need-loop-again Inv-loop μ-loop
-unfolding treeStep
+unfolding treeStepIn
 loop-again c =
     let s = c .before .before .before .before .before .before .before .before .before .before .before in
     let l = c .before .before .before .before .before .before .before .loop in
     let a = s .args in
     let o = a .o in
     let p : Near o = s .pre .0 in
-    let ps : 0 < o .size = p .some in
     let sq = square-most (o .size) (p .most) in
-    let f = treeStep o (again w32 (a .sea)) (topIn (a .heights .now) (a .biomes .now)) in
-    let i0 : l .k ≤ o .size * o .size = l .inv .0 in
-    let lt : l .k < o .size * o .size = c .before .before .before .before .before .before .loop-test .taken in
-    (omega arith, c .before .before .tree-column .kept .0 ∙ l .inv .1, c .before .before .tree-column .ensures ∙ ap (treeColumn o (again w32 (a .sea)) (topIn (a .heights .now) (a .biomes .now) (l .k)) (l .k % o .size) (l .k / o .size)) (l .inv .2) ∙ steps-more (l .k) f (a .cells .now))
+    let fit = rows-fit (o .size) (a .first) (a .last) (s .pre .5) (s .pre .6) in
+    let lt : l .j < (a .last - a .first) * o .size = c .before .before .before .before .before .before .loop-test .taken in
+    let k = a .first * o .size + l .j in
+    let f : ℕ → List ℕ → List ℕ = λ (i : ℕ). treeStepIn (a .lo) (a .hi) o (again w32 (a .sea)) (topIn (a .heights .now) (a .biomes .now)) (a .first * o .size + i) in
+    (omega arith, c .before .before .tree-column .kept .0 ∙ l .inv .1, c .before .before .tree-column .ensures ∙ ap (treeColumnIn (a .lo) (a .hi) o (again w32 (a .sea)) (topIn (a .heights .now) (a .biomes .now) k) (k % o .size) (k / o .size)) (l .inv .2) ∙ steps-more (l .j) f (a .cells .now))
 
 same-length : tie.Need-same-length Inv-loop μ-loop
 same-length c = c .before .loop .inv .1
 
 returns : tie.Need-returns Inv-loop μ-loop
-unfolding treesOf
+unfolding overRows
 returns c =
     let s = c .before .before .before .before .before in
     let l = c .before .loop in
     let a = s .args in
     let o = a .o in
-    let p : Near o = s .pre .0 in
-    let ps : 0 < o .size = p .some in
-    let sq = square-most (o .size) (p .most) in
-    let f = treeStep o (again w32 (a .sea)) (topIn (a .heights .now) (a .biomes .now)) in
-    let i0 : l .k ≤ o .size * o .size = l .inv .0 in
-    let e : l .k ≡ o .size * o .size = (let t = c .loop-test .left in omega arith) in
+    let i0 : l .j ≤ (a .last - a .first) * o .size = l .inv .0 in
+    let e : l .j ≡ (a .last - a .first) * o .size = (let t = c .loop-test .left in omega arith) in
     l .inv .2
-    ∙ ap₂ (λ (k : ℕ) (u : ℤ). steps k (treeStep o u (topIn (a .heights .now) (a .biomes .now))) (a .cells .now)) e (toZ-ofZ w32 (a .sea) (s .fits .sea))
+    ∙ ap₂ (λ (k : ℕ) (u : ℤ). steps k (λ (i : ℕ). treeStepIn (a .lo) (a .hi) o u (topIn (a .heights .now) (a .biomes .now)) (a .first * o .size + i)) (a .cells .now)) e (toZ-ofZ w32 (a .sea) (s .fits .sea))
 
 pub place-trees-spec : {M : Type 1} → statement M
 place-trees-spec =
@@ -162,15 +178,18 @@ place-trees-spec =
     (tie.spec
     Inv-loop
     μ-loop
+    mul-from
+    sub-n
     mul-n
     loop-holds
-    mul-t11
-    shared-slice-read-t13
-    shared-slice-read-t15
+    add-k
+    mul-t18
+    shared-slice-read-t20
+    shared-slice-read-t22
     rem-tree-column
     div-tree-column
     tree-column-requires
-    add-k
+    add-j
     loop-less
     loop-again
     same-length

@@ -13,7 +13,8 @@ use Rattle.basics.specs.Paths.{ap₄}
 use Rattle.num_core.specs.Num.{nearest}
 use Rattle.basics.specs.Words.{back}
 use Rattle.ground_trees.specs.Signs.{sum-natural}
-use Rattle.ground_trees.specs.Features.{growOf, trunkHeight, plantOf}
+use Rattle.ground_trees.specs.Features.{trunkHeight}
+use Rattle.ground_trees.specs.Slabs.{growIn, plantIn}
 use Rattle.ground_trees.proofs.tree.plant.Statement.{statement}
 use Rattle.ground_trees.proofs.tree.plant.Tie as tie
 
@@ -35,11 +36,11 @@ same-length : tie.Need-same-length
 same-length c = search needs
 
 returns : tie.Need-returns
-unfolding plantOf trunkHeight nearest ofBits
+unfolding plantIn trunkHeight nearest ofBits
 returns c =
     let s = c .before .before .before .before .before .before .before in
     let a = s .args in
-    rw (c .before .before .before .before .before .if1 .taken) (c .before .before .grow .ensures ∙ ap₄ (λ (o u v t : ℤ). growOf (a .size) o (a .x) (a .z) u v (a .y) t 4 4 (a .cells .now)) (back (a .oy) (s .pre .3)) (toZ-ofZ w32 (a .wx) (s .fits .wx)) (toZ-ofZ w32 (a .wz) (s .fits .wz)) (ap (λ (k : ℕ). pos (8 + k)) (c .before .before .before .before .whole .ensures .0) ∙ sym (sum-natural 8 40 (a .v) (s .pre .5))))
+    rw (c .before .before .before .before .before .if1 .taken) (c .before .before .grow .ensures ∙ ap₄ (λ (o u v t : ℤ). growIn (a .lo) (a .hi) (a .size) o (a .x) (a .z) u v (a .y) t 4 4 (a .cells .now)) (back (a .oy) (s .pre .3)) (toZ-ofZ w32 (a .wx) (s .fits .wx)) (toZ-ofZ w32 (a .wz) (s .fits .wz)) (ap (λ (k : ℕ). pos (8 + k)) (c .before .before .before .before .whole .ensures .0) ∙ sym (sum-natural 8 40 (a .v) (s .pre .5))))
 
 whole-requires-2 : tie.Need-whole-requires-2
 whole-requires-2 c κs = search needs
@@ -59,11 +60,11 @@ same-length-2 : tie.Need-same-length-2
 same-length-2 c = search needs
 
 returns-2 : tie.Need-returns-2
-unfolding plantOf trunkHeight nearest ofBits
+unfolding plantIn trunkHeight nearest ofBits
 returns-2 c =
     let s = c .before .before .before .before .before .before .before in
     let a = s .args in
-    rw (c .before .before .before .before .before .if1 .left) (c .before .before .grow2 .ensures ∙ ap₄ (λ (o u v t : ℤ). growOf (a .size) o (a .x) (a .z) u v (a .y) t 2 3 (a .cells .now)) (back (a .oy) (s .pre .3)) (toZ-ofZ w32 (a .wx) (s .fits .wx)) (toZ-ofZ w32 (a .wz) (s .fits .wz)) (ap (λ (k : ℕ). pos (4 + k)) (c .before .before .before .before .whole2 .ensures .0) ∙ sym (sum-natural 4 3 (a .v) (s .pre .5))))
+    rw (c .before .before .before .before .before .if1 .left) (c .before .before .grow2 .ensures ∙ ap₄ (λ (o u v t : ℤ). growIn (a .lo) (a .hi) (a .size) o (a .x) (a .z) u v (a .y) t 2 3 (a .cells .now)) (back (a .oy) (s .pre .3)) (toZ-ofZ w32 (a .wx) (s .fits .wx)) (toZ-ofZ w32 (a .wz) (s .fits .wz)) (ap (λ (k : ℕ). pos (4 + k)) (c .before .before .before .before .whole2 .ensures .0) ∙ sym (sum-natural 4 3 (a .v) (s .pre .5))))
 
 pub plant-spec : {M : Type 1} → statement M
 plant-spec =

@@ -11,7 +11,8 @@ use mir.ValLaws.{toZ-ofZ}
 use Rattle.basics.specs.Words.{read, back}
 use Rattle.basics.specs.Paths.{ap₄}
 use Rattle.ground_cell.specs.World.{Near}
-use Rattle.ground_trees.specs.Features.{insetIn, placeTree, treeColumn}
+use Rattle.ground_trees.specs.Features.{insetIn}
+use Rattle.ground_trees.specs.Slabs.{placeTreeIn, treeColumnIn}
 use Rattle.ground_trees.proofs.tree.tree_column.Statement.{statement}
 use Rattle.ground_trees.proofs.tree.tree_column.Tie as tie
 
@@ -39,7 +40,7 @@ same-length : tie.Need-same-length
 same-length c = search needs
 
 returns : tie.Need-returns
-unfolding treeColumn
+unfolding treeColumnIn
 returns c =
     let c5 = c .before .before .before .before .before in
     let c7 = c5 .before .before in
@@ -52,10 +53,10 @@ returns c =
     let e : insetIn 2 (o .size) (a .x) (a .z) ≡ true =
     sym (c10 .inset .ensures)
     ∙ c9 .if1 .taken in
-    rw e (c .before .before .place-tree .ensures ∙ ap₄ (λ (u q v r : ℤ). placeTree (o .size) u q (a .t) (a .x) (a .z) v r (a .cells .now)) (back (o .oy) (p .y)) (toZ-ofZ w32 (a .sea) (s .fits .sea)) (read w32 (c7 .along .ok) (c7 .along .ensures ∙ ap (λ (u : ℤ). u +ℤ pos (a .x)) (back (o .ox) (p .x)))) (read w32 (c5 .along2 .ok) (c5 .along2 .ensures ∙ ap (λ (u : ℤ). u +ℤ pos (a .z)) (back (o .oz) (p .z)))))
+    rw e (c .before .before .place-tree .ensures ∙ ap₄ (λ (u q v r : ℤ). placeTreeIn (a .lo) (a .hi) (o .size) u q (a .t) (a .x) (a .z) v r (a .cells .now)) (back (o .oy) (p .y)) (toZ-ofZ w32 (a .sea) (s .fits .sea)) (read w32 (c7 .along .ok) (c7 .along .ensures ∙ ap (λ (u : ℤ). u +ℤ pos (a .x)) (back (o .ox) (p .x)))) (read w32 (c5 .along2 .ok) (c5 .along2 .ensures ∙ ap (λ (u : ℤ). u +ℤ pos (a .z)) (back (o .oz) (p .z)))))
 
 returns-2 : tie.Need-returns-2
-unfolding treeColumn
+unfolding treeColumnIn
 returns-2 c =
     let s = c .before .before .before in
     let a = s .args in

@@ -1,0 +1,6 @@
+pub mod Rows
+pub mod Clip
+pub mod Filled
+pub mod Differing
+pub mod Parts
+pub mod Runs

@@ -1,0 +1,4 @@
+pub mod Grown
+pub mod Stands
+pub mod Far
+pub mod Slabs
