@@ -1,7 +1,6 @@
 //! Random journals, valid and damaged, and random calls of a session.
 use crate::chunk::{batch, coordinate, id};
-use crate::ground::reach;
-use crate::ground::Site;
+use crate::ground::{height_at, reach, Site};
 use crate::model::{header, Call};
 use crate::rng::Rng;
 
@@ -18,6 +17,34 @@ pub fn site(rng: &mut Rng) -> Site {
         cx: rng.pick(&[0, -1, least, most, any]),
         cy: rng.pick(&[0, 0, 1, -1, least, most, 30]),
         cz: rng.pick(&[0, 3, least, most, any]),
+    }
+}
+
+/// A chunk of any size at the surface, or the one above or below it.
+pub fn surface(rng: &mut Rng) -> Site {
+    let chunk_size = rng.pick(&[1, 2, 5, 6, 8, 9, 10, 13, 16, 17, 24, 31, 33, 48, 63, 64]);
+    let mut site = Site {
+        seed: rng.pick(&[0, 1, 7, 65_535, 4242]),
+        sea_level: rng.pick(&[24, 0, 40, 90]),
+        world_height_blocks: rng.pick(&[64, 256]),
+        chunk_size,
+        cx: rng.range(-2000, 2000) as i32,
+        cy: 0,
+        cz: rng.range(-2000, 2000) as i32,
+    };
+    let n = chunk_size as i32;
+    let height = height_at(&site, site.cx * n + n / 2, site.cz * n + n / 2);
+    site.cy = height.div_euclid(n) + rng.pick(&[0, 0, 0, 1, -1]);
+    site
+}
+
+/// An edit on a chunk of this size: any call but an undo.
+pub fn edit(rng: &mut Rng, size: usize) -> Call {
+    loop {
+        match call(rng, size) {
+            Call::Undo => {}
+            edit => return edit,
+        }
     }
 }
 

@@ -30,6 +30,7 @@ pub struct Amount {
     pub sessions: u64,
     pub cut_sessions: u64,
     pub hostile: u64,
+    pub surfaces: u64,
 }
 
 pub const FULL: Amount = Amount {
@@ -37,6 +38,7 @@ pub const FULL: Amount = Amount {
     sessions: 4000,
     cut_sessions: 220,
     hostile: 120_000,
+    surfaces: 400,
 };
 
 /// Reopens a journal on both sides: answer, record, lines, trailing bytes and cells.
@@ -320,6 +322,38 @@ fn hostile(report: &mut Report, rng: &mut Rng, calls: &impl Calls, many: u64) {
     println!("hostile records: {done} calls, by refusal (0: accepted) {met:?}");
 }
 
+/// Undo on chunks of many sizes at the surface, where trees, boulders and batches reach over many z: on the session's
+/// own cells and on others, which an undo lays anew all the same.
+fn surfaces(report: &mut Report, rng: &mut Rng, calls: &impl Calls, many: u64) {
+    let (mut undone, mut leaves) = (0, 0);
+    for _ in 0..many {
+        let site = journals::surface(rng);
+        let size = site.chunk_size;
+        let Some(mut lent) = started(report, calls, &site, size.pow(3), 32_768) else {
+            continue;
+        };
+        leaves += u64::from(lent.cells.contains(&original::block::LEAVES));
+        for _ in 0..rng.range(1, 12) {
+            let edit = journals::edit(rng, size);
+            lent = called(report, calls, &lent, &edit).0;
+        }
+        let mut other = lent.clone();
+        match rng.below(3) {
+            0 => other.cells.iter_mut().for_each(|c| *c = rng.below(12) as u16),
+            1 => other.cells.fill(rng.pick(&[0, 1, 9, 65_535])),
+            _ => other.cells.rotate_left(rng.below(size.pow(3) as u64) as usize),
+        }
+        for from in [lent, other] {
+            let (_, number) = called(report, calls, &from, &Call::Undo);
+            undone += u64::from(number == 0);
+        }
+    }
+    report.same(many < 20 || leaves > 0, || {
+        "no chunk at the surface had a tree".into()
+    });
+    println!("chunks at the surface: {many}, {leaves} with trees, {undone} undone");
+}
+
 /// Fresh sessions at and around each limit.
 fn fresh_limits(report: &mut Report, rng: &mut Rng, calls: &impl Calls) {
     for _ in 0..4000 {
@@ -361,6 +395,7 @@ pub fn compare(report: &mut Report, calls: &impl Calls, amount: &Amount) {
         }
     }
     hostile(report, &mut rng, calls, amount.hostile);
+    surfaces(report, &mut rng, calls, amount.surfaces);
     println!(
         "sessions: {} comparisons, {cut} sessions cut at every byte",
         report.comparisons - before

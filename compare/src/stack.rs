@@ -25,26 +25,50 @@ fn keep<T>(answer: T) {
 /// A session at its limits: 255 active edits, a long journal and room for one line of any kind. Its
 /// journal is written as text and reopened, since each undo would lay the ground anew.
 pub fn long_session(calls: &impl Calls, site: Site) -> Lent {
+    let set = |k: usize| format!("S\t{}\t{}\t{}\t{}\n", k % 64, k / 64 % 64, k * 7 % 64, k % 9);
+    session_of(calls, site, |k| match k {
+        0..255 => set(k),
+        _ => set(k) + "U\n",
+    })
+}
+
+/// The same with 255 active batches, of as many groups as the journal has room for, each in another z.
+pub fn batches_session(calls: &impl Calls, site: Site) -> Lent {
+    let group = |k: usize, g: usize| {
+        let n = k * 11 + g;
+        format!(
+            "\t{}\t{}\t{}\t{}",
+            n * 5 % 64,
+            n * 3 % 64,
+            (k + 23 * g) % 64,
+            n % 9
+        )
+    };
+    session_of(calls, site, |k| match k {
+        0..255 => format!("B\t11{}\n", (0..11).map(|g| group(k, g)).collect::<String>()),
+        _ => "S\t0\t0\t0\t1\nU\n".into(),
+    })
+}
+
+/// A session whose journal has these texts of lines, as many as leave room for one line of any kind.
+fn session_of(calls: &impl Calls, site: Site, text: impl Fn(usize) -> String) -> Lent {
     let mut cells = vec![0; site.chunk_size.pow(3)];
     let mut journal = vec![0; 32_768];
     let mut used = calls
         .fresh(&site, &mut cells, &mut journal)
         .expect("a session within the limits")
         .used;
-    let mut append = |k: usize, used: &mut usize, undo: &str| {
-        let (x, y, z, id) = (k % 64, k / 64 % 64, k * 7 % 64, k % 9);
-        let line = format!("S\t{x}\t{y}\t{z}\t{id}\n{undo}");
-        journal[*used..*used + line.len()].copy_from_slice(line.as_bytes());
-        *used += line.len();
-    };
-    (0..255).for_each(|k| append(k, &mut used, ""));
-    while used + 300 < 32_768 {
-        let k = used;
-        append(k, &mut used, "U\n");
+    for line in (0..).map(text) {
+        if used + line.len() + 250 > journal.len() {
+            break;
+        }
+        journal[used..used + line.len()].copy_from_slice(line.as_bytes());
+        used += line.len();
     }
     let (record, ..) = calls
         .reopen(&journal, used, &mut cells)
         .expect("a journal of its form");
+    assert_eq!(record.active, 255, "a session at its limits");
     Lent {
         record,
         cells,

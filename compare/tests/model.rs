@@ -13,6 +13,7 @@ const SMALL: Amount = Amount {
     sessions: 120,
     cut_sessions: 12,
     hostile: 3000,
+    surfaces: 25,
 };
 
 /// The slip of a library that is otherwise the model.
@@ -25,6 +26,7 @@ enum Slip {
     CountsOneByteShort,
     UndoKeepsCount,
     UndoOnlyWrites,
+    UndoLeavesTheLastSlab,
     NoLineEnd,
     CountNeverCounted,
     EarlyFull,
@@ -67,6 +69,11 @@ impl Calls for Double {
                 }
                 if self.0 == Slip::UndoOnlyWrites && undo {
                     next.cells = lent.cells.clone();
+                }
+                let size = lent.record.site.chunk_size;
+                if self.0 == Slip::UndoLeavesTheLastSlab && undo && size > 6 {
+                    let last = size * size * (size - 1);
+                    next.cells[last..].copy_from_slice(&lent.cells[last..]);
                 }
                 if self.0 == Slip::NoLineEnd && next.record.used > lent.record.used {
                     next.journal[next.record.used - 1] = b'?';
@@ -169,6 +176,7 @@ fn every_slip_is_found() {
         ("counts one byte short", Slip::CountsOneByteShort),
         ("undo keeps the count", Slip::UndoKeepsCount),
         ("undo only writes", Slip::UndoOnlyWrites),
+        ("undo leaves the last slab", Slip::UndoLeavesTheLastSlab),
         ("no line end", Slip::NoLineEnd),
         ("count never counted", Slip::CountNeverCounted),
         ("full too early", Slip::EarlyFull),

@@ -4,7 +4,7 @@
 //!   bench instructions       how many instructions each side takes, counted by valgrind
 //!   bench count N SIDE       runs one side of a workload once, for valgrind
 use compare::ground::{height_at, Laid, Site};
-use compare::model::Call;
+use compare::model::{Call, Lent};
 use compare::native::{self, Native};
 use compare::product::{self, Product};
 use compare::report::Report;
@@ -235,7 +235,7 @@ fn presses<'a>() -> Vec<Workload<'a>> {
         baseline: Box::new(move || one_generation(site)),
         native: None,
     };
-    let press = |call: Call| {
+    let press_from = |start: &Lent, call: Call| {
         let lent = RefCell::new(start.clone());
         Box::new(move || {
             let mut lent = lent.borrow_mut();
@@ -247,6 +247,8 @@ fn presses<'a>() -> Vec<Workload<'a>> {
             answer as f64
         })
     };
+    let press = |call: Call| press_from(&start, call);
+    let batches = stack::batches_session(&Product, site);
     let column = Call::Column {
         x: 3,
         z: 5,
@@ -260,6 +262,7 @@ fn presses<'a>() -> Vec<Workload<'a>> {
         row("session column of 64", 1000, press(column)),
         row("session batch of 16", 1000, press(Call::Batch(stack::groups()))),
         row("undo, 255 active", 1, press(Call::Undo)),
+        row("undo, 255 active batches", 1, press_from(&batches, Call::Undo)),
         row(
             "reopening of 32 KiB",
             1,
