@@ -173,7 +173,7 @@ fn across(rng: &mut Rng, size: usize) -> i32 {
 }
 
 /// The place along y whose chunk has the surface of the column at the chunk's middle.
-fn surface(s: &Site) -> i32 {
+pub fn surface(s: &Site) -> i32 {
     let size = s.chunk_size as i32;
     let middle = size / 2;
     (height_at(s, s.cx * size + middle, s.cz * size + middle) - 1).div_euclid(size)

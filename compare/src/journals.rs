@@ -1,6 +1,6 @@
 //! Random journals, valid and damaged, and random calls of a session.
 use crate::chunk::{batch, coordinate, id};
-use crate::ground::{height_at, reach, Site};
+use crate::ground::{self, reach, Site};
 use crate::model::{header, Call};
 use crate::rng::Rng;
 
@@ -20,7 +20,7 @@ pub fn site(rng: &mut Rng) -> Site {
     }
 }
 
-/// A chunk of any size at the surface, or the one above or below it.
+/// A chunk at the surface, or the one above or below it, of sizes up to 64.
 pub fn surface(rng: &mut Rng) -> Site {
     let chunk_size = rng.pick(&[1, 2, 5, 6, 8, 9, 10, 13, 16, 17, 24, 31, 33, 48, 63, 64]);
     let mut site = Site {
@@ -32,9 +32,7 @@ pub fn surface(rng: &mut Rng) -> Site {
         cy: 0,
         cz: rng.range(-2000, 2000) as i32,
     };
-    let n = chunk_size as i32;
-    let height = height_at(&site, site.cx * n + n / 2, site.cz * n + n / 2);
-    site.cy = height.div_euclid(n) + rng.pick(&[0, 0, 0, 1, -1]);
+    site.cy = ground::surface(&site) + rng.pick(&[0, 0, 0, 1, -1]);
     site
 }
 

@@ -8,6 +8,7 @@ use crate::model::{self, Call, Lent, Record, Reference, Refusal, Reopened};
 use crate::product::Product;
 use crate::report::Report;
 use crate::rng::Rng;
+use crate::stack;
 
 /// The calls of a library. Each changes what is lent to it, as the library would.
 pub trait Calls {
@@ -322,8 +323,8 @@ fn hostile(report: &mut Report, rng: &mut Rng, calls: &impl Calls, many: u64) {
     println!("hostile records: {done} calls, by refusal (0: accepted) {met:?}");
 }
 
-/// Undo on chunks of many sizes at the surface, where trees, boulders and batches reach over many z: on the session's
-/// own cells and on others, which an undo lays anew all the same.
+/// Undo on chunks of many sizes at the surface and next to it, where crowns and batches reach over several z: on the
+/// session's own cells and on others, which an undo lays anew all the same.
 fn surfaces(report: &mut Report, rng: &mut Rng, calls: &impl Calls, many: u64) {
     let (mut undone, mut leaves) = (0, 0);
     for _ in 0..many {
@@ -348,8 +349,8 @@ fn surfaces(report: &mut Report, rng: &mut Rng, calls: &impl Calls, many: u64) {
             undone += u64::from(number == 0);
         }
     }
-    report.same(many < 20 || leaves > 0, || {
-        "no chunk at the surface had a tree".into()
+    report.same(many < 20 || (leaves > 0 && undone > many), || {
+        "no chunk at the surface had a tree, or undos were refused".into()
     });
     println!("chunks at the surface: {many}, {leaves} with trees, {undone} undone");
 }
@@ -404,4 +405,6 @@ pub fn compare(report: &mut Report, calls: &impl Calls, amount: &Amount) {
 
 pub fn run(report: &mut Report) {
     compare(report, &Product, &FULL);
+    let full = stack::batches_session(&Product, stack::site());
+    called(report, &Product, &full, &Call::Undo);
 }

@@ -32,7 +32,7 @@ pub fn long_session(calls: &impl Calls, site: Site) -> Lent {
     })
 }
 
-/// The same with 255 active batches, of as many groups as the journal has room for, each in another z.
+/// The same with 255 active batches, of as many groups as the journal has room for, those of one batch each in another z.
 pub fn batches_session(calls: &impl Calls, site: Site) -> Lent {
     let group = |k: usize, g: usize| {
         let n = k * 11 + g;

@@ -27,6 +27,7 @@ enum Slip {
     UndoKeepsCount,
     UndoOnlyWrites,
     UndoLeavesTheLastSlab,
+    UndoDropsLeaves,
     NoLineEnd,
     CountNeverCounted,
     EarlyFull,
@@ -74,6 +75,11 @@ impl Calls for Double {
                 if self.0 == Slip::UndoLeavesTheLastSlab && undo && size > 6 {
                     let last = size * size * (size - 1);
                     next.cells[last..].copy_from_slice(&lent.cells[last..]);
+                }
+                if self.0 == Slip::UndoDropsLeaves && undo && size > 6 {
+                    let middle = size * size * (size / 2);
+                    let slab = &mut next.cells[middle..middle + size * size];
+                    slab.iter_mut().filter(|c| **c == 9).for_each(|c| *c = 0);
                 }
                 if self.0 == Slip::NoLineEnd && next.record.used > lent.record.used {
                     next.journal[next.record.used - 1] = b'?';
@@ -177,6 +183,7 @@ fn every_slip_is_found() {
         ("undo keeps the count", Slip::UndoKeepsCount),
         ("undo only writes", Slip::UndoOnlyWrites),
         ("undo leaves the last slab", Slip::UndoLeavesTheLastSlab),
+        ("undo drops the leaves of a slab", Slip::UndoDropsLeaves),
         ("no line end", Slip::NoLineEnd),
         ("count never counted", Slip::CountNeverCounted),
         ("full too early", Slip::EarlyFull),

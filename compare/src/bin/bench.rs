@@ -261,7 +261,7 @@ fn presses<'a>() -> Vec<Workload<'a>> {
         row("session set", 1000, press(Call::Set([1, 2, 3], 4))),
         row("session column of 64", 1000, press(column)),
         row("session batch of 16", 1000, press(Call::Batch(stack::groups()))),
-        row("undo, 255 active", 1, press(Call::Undo)),
+        row("undo, 255 active sets", 1, press(Call::Undo)),
         row("undo, 255 active batches", 1, press_from(&batches, Call::Undo)),
         row(
             "reopening of 32 KiB",

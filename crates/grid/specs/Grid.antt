@@ -146,6 +146,23 @@ pub see-inside : (s x y z : ℕ) (c : List ℕ) → Inside s x y z → seeAt s x
 unfolding seeAt
 see-inside s x y z c h = rw (in-all s x y z (h .x-in) (h .y-in) (h .z-in))
 
+-- a level outside, whatever x and z
+pub out-level : (s x y z : ℕ) → s ≤ y → inside s x y z ≡ false
+unfolding inside
+out-level s x y z h = rw (le-ltb y s h) (never (ltb x s))
+  where
+    never : (b : Bool) → cond b false false ≡ false
+    never true = refl
+    never false = refl
+
+pub put-out : (s x y z v : ℕ) (c : List ℕ) → s ≤ y → putAt s x y z v c ≡ c
+unfolding putAt
+put-out s x y z v c h = rw (out-level s x y z h)
+
+pub see-out : (s x y z : ℕ) (c : List ℕ) → s ≤ y → seeAt s x y z c ≡ 0
+unfolding seeAt
+see-out s x y z c h = rw (out-level s x y z h)
+
 -- the steps of a loop
 pub steps-more : (n : ℕ) (f : ℕ → List ℕ → List ℕ) (c : List ℕ) → f n (steps n f c) ≡ steps (n + 1) f c
 unfolding steps

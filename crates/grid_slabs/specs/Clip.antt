@@ -1,17 +1,17 @@
--- A part of a chunk, some of its slabs of equal z, goes as the chunk does. Assumes nothing.
+-- A part of a chunk, some of its slabs (a slab has the cells of one z), goes as the chunk does. Assumes nothing.
 use mathlib.Core.Path.{_≡_, refl, sym, ap, _∙_}
 use Prim.Native.Nat.{ℕ, zero, suc, _-_, _*_, _/_, _≤_, _<_}
 use native.Mathlib.Omega.{arith}
-use mathlib.Core.Bool.{Bool, true, false, cond}
+use mathlib.Core.Bool.{Bool, true, false, cond, true≢false}
 use mathlib.Core.List.{List}
 use lib.ListN.{length, set, getD, length-set}
 use lib.Seq.{ext-getD, getD-set-same, getD-set-other}
-use lib.Dec.{eqb}
-use borrow.Author.Tests.{eqb-true, eqb-false, lt-ltb, le-leb}
+use lib.Dec.{eqb, ltb}
+use borrow.Author.Tests.{eqb-true, eqb-false, lt-ltb, le-leb, ltb-true, ltb-false}
 use Rattle.basics.specs.Bools.{by-bool}
 use Rattle.grid.specs.Cube.{cellIndex, inside, putAt, steps}
 use Rattle.grid.specs.Grid.{below, index-lt, index-z, inside-true}
-use Rattle.grid_slabs.specs.Rows.{inRows}
+use Rattle.grid_slabs.specs.Rows.{inRows, rows-in, rows-is, rows-off}
 
 -- p is as c in the slabs lo ≤ z < hi, and as o in the others
 pub record Clip (s lo hi : ℕ) (o p c : List ℕ) : Type 0 where
@@ -27,12 +27,9 @@ module _ (s lo hi : ℕ) (o : List ℕ) where
     all = length-set c j v ∙ k .all;
     long = length-set p j v ∙ k .long;
     same = λ i q. here i q (eqb i j) refl;
-    kept = λ i q. getD-set-other p j i v 0 (λ e. true-false (sym r ∙ ap (λ (u : ℕ). inRows lo hi (u / s / s)) (sym e) ∙ q)) ∙ k .kept i q;
+    kept = λ i q. getD-set-other p j i v 0 (λ e. true≢false (sym r ∙ ap (λ (u : ℕ). inRows lo hi (u / s / s)) (sym e) ∙ q)) ∙ k .kept i q;
   }
     where
-      true-false : true ≡ false → ⊥
-      true-false e = mathlib.Core.Bool.true≢false e
-
       here : (i : ℕ) → inRows lo hi (i / s / s) ≡ true → (b : Bool) → eqb i j ≡ b → getD (set p j v) i 0 ≡ getD (set c j v) i 0
       here i q true e =
           let f : i ≡ j = eqb-true i j e in
@@ -51,7 +48,7 @@ module _ (s lo hi : ℕ) (o : List ℕ) where
   set-off p c j v r k = record {
     all = length-set c j v ∙ k .all;
     long = k .long;
-    same = λ i q. k .same i q ∙ sym (getD-set-other c j i v 0 (λ e. mathlib.Core.Bool.true≢false (sym q ∙ ap (λ (u : ℕ). inRows lo hi (u / s / s)) e ∙ r)));
+    same = λ i q. k .same i q ∙ sym (getD-set-other c j i v 0 (λ e. true≢false (sym q ∙ ap (λ (u : ℕ). inRows lo hi (u / s / s)) e ∙ r)));
     kept = k .kept;
   }
 
@@ -93,3 +90,20 @@ clip-all s q p c k =
 
 pub clip-same : (s lo hi : ℕ) (c : List ℕ) → length c ≡ s * s * s → Clip s lo hi c c c
 clip-same s lo hi c l = record { all = l; long = l; same = λ i e. refl; kept = λ i e. refl }
+
+-- some slabs, and then those behind them
+pub clip-then : (s lo mid hi : ℕ) (o q p c : List ℕ) → lo ≤ mid → mid ≤ hi → Clip s lo mid o q c → Clip s mid hi q p c → Clip s lo hi o p c
+clip-then s lo mid hi o q p c h k a b = record {
+  all = b .all;
+  long = b .long;
+  same = λ i e. let r = rows-is lo hi (i / s / s) e in
+      by-bool (ltb (i / s / s) mid)
+      (λ t. let u = ltb-true (i / s / s) mid t in
+      b .kept i (rows-off mid hi (i / s / s) (λ x y. omega arith)) ∙ a .same i (rows-in lo mid (i / s / s) (r .0) u))
+      (λ t. b .same i (rows-in mid hi (i / s / s) (ltb-false (i / s / s) mid t) (r .1)));
+  kept = λ i e. let n = out i e in
+      b .kept i (rows-off mid hi (i / s / s) (λ x y. n (omega arith) y)) ∙ a .kept i (rows-off lo mid (i / s / s) (λ x y. n x (omega arith)));
+}
+  where
+    out : (i : ℕ) → inRows lo hi (i / s / s) ≡ false → lo ≤ i / s / s → i / s / s < hi → ⊥
+    out i e x y = true≢false (sym (rows-in lo hi (i / s / s) x y) ∙ e)

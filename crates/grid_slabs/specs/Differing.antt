@@ -1,5 +1,5 @@
 -- In how many cells two chunks differ. Assumes nothing.
-use mathlib.Core.Path.{_≡_, refl, sym, ap, _∙_}
+use mathlib.Core.Path.{_≡_, refl, ap, _∙_}
 use Prim.Native.Nat.{ℕ, zero, suc, _+_, _-_, _≤_, _<_}
 use native.Mathlib.Omega.{arith}
 use mathlib.Core.Bool.{Bool, true, false, cond}
@@ -7,7 +7,7 @@ use mathlib.Core.List.{List, [], _∷_, _++_}
 use lib.ListN.{length, set, getD, take, drop, length-take}
 use lib.Seq.{take-add}
 use lib.Dec.{eqb}
-use borrow.Author.Tests.{eqb-true, eqb-false, eq-eqb, ne-eqb}
+use borrow.Author.Tests.{eqb-true, eq-eqb}
 use Rattle.basics.specs.Bools.{by-bool}
 
 -- 1 where two ids differ, else 0
@@ -20,22 +20,10 @@ differing [] d = 0
 differing (a ∷ c) [] = 0
 differing (a ∷ c) (b ∷ d) = apart a b + differing c d
 
-apart-swap : (a b : ℕ) → apart a b ≡ apart b a
-apart-swap a b = by-bool (eqb a b)
-    (λ e. rw (e, eq-eqb b a (sym (eqb-true a b e))))
-    (λ e. rw (e, ne-eqb b a (λ q. eqb-false a b e (sym q))))
-
 pub differing-same : (c : List ℕ) → differing c c ≡ 0
 unfolding differing
 differing-same [] = refl
 differing-same (a ∷ c) = rw (eq-eqb a a refl) (let e = differing-same c in let f : 0 + differing c c ≡ 0 = omega arith in f)
-
-pub differing-swap : (c d : List ℕ) → differing c d ≡ differing d c
-unfolding differing
-differing-swap [] [] = refl
-differing-swap [] (b ∷ d) = refl
-differing-swap (a ∷ c) [] = refl
-differing-swap (a ∷ c) (b ∷ d) = let e = apart-swap a b in let f = differing-swap c d in omega arith
 
 -- where nothing differs the cells are the same
 pub differing-none : (c d : List ℕ) → length c ≡ length d → differing c d ≡ 0 → c ≡ d

@@ -5,14 +5,14 @@ use native.Mathlib.Omega.{arith}
 use native.Mathlib.Nat.{add-mul, mul-assoc, div-lt-iff-lt-mul, le-div-iff-mul-le}
 use mathlib.Core.Bool.{true, false, true≢false}
 use mathlib.Core.List.{List}
-use lib.Dec.{ltb, leb, eqb}
+use lib.Dec.{ltb, eqb}
 use lib.ListN.{length, getD, set, length-set, List·getD-eq-default}
 use lib.Seq.{getD-set-same, getD-set-other}
-use borrow.Author.Tests.{ltb-true, ltb-false, leb-true, eqb-true, eqb-false, le-leb, lt-ltb}
-use Rattle.basics.specs.Bools.{by-bool, and-both}
+use borrow.Author.Tests.{ltb-true, ltb-false, eqb-true, eqb-false}
+use Rattle.basics.specs.Bools.{by-bool}
 use Rattle.grid.specs.Cube.{tab}
 use Rattle.grid.specs.Grid.{tab-length, tab-at}
-use Rattle.grid_slabs.specs.Rows.{inRows}
+use Rattle.grid_slabs.specs.Rows.{inRows, rows-in, rows-is}
 use Rattle.grid_slabs.specs.Clip.{Clip}
 
 -- of n cells those from `from` on below `to` are those of f, and all else is as in q
@@ -39,7 +39,7 @@ module _ (f : ℕ → ℕ) (n from : ℕ) where
   }
     where
       below : (i : ℕ) → i < to + 1 → (i ≡ to → ⊥) → i < to
-      below i m g = by-bool (ltb i to) (λ t. ltb-true i to t) (λ t. let u = ltb-false i to t in absurd (g (omega arith)))
+      below i m g = omega arith
 
   -- some cells, and then more
   pub filled-then : (mid to : ℕ) (q c d : List ℕ) → from ≤ mid → mid ≤ to → Filled f n from mid q c → Filled f n mid to c d → Filled f n from to q d
@@ -56,23 +56,16 @@ module _ (f : ℕ → ℕ) (n from : ℕ) where
 -- the cells of the slabs from lo on below hi
 module _ (s lo hi i : ℕ) (ps : 0 < s) where
   in-from : inRows lo hi (i / s / s) ≡ true → lo * s * s ≤ i
-  unfolding inRows
-  in-from e =
-      let h : lo ≤ i / s / s = leb-true lo _ (and-both (leb lo (i / s / s)) _ e .0) in
-      le-div-iff-mul-le {k = s} {x = lo * s} {y = i} ps .0 (le-div-iff-mul-le {k = s} {x = lo} {y = i / s} ps .0 h)
+  in-from e = le-div-iff-mul-le {k = s} {x = lo * s} {y = i} ps .0 (le-div-iff-mul-le {k = s} {x = lo} {y = i / s} ps .0 (rows-is lo hi (i / s / s) e .0))
 
   in-to : inRows lo hi (i / s / s) ≡ true → i < hi * s * s
-  unfolding inRows
-  in-to e =
-      let h : i / s / s < hi = ltb-true _ hi (and-both (leb lo (i / s / s)) _ e .1) in
-      div-lt-iff-lt-mul {k = s} {x = i} {y = hi * s} ps .0 (div-lt-iff-lt-mul {k = s} {x = i / s} {y = hi} ps .0 h)
+  in-to e = div-lt-iff-lt-mul {k = s} {x = i} {y = hi * s} ps .0 (div-lt-iff-lt-mul {k = s} {x = i / s} {y = hi} ps .0 (rows-is lo hi (i / s / s) e .1))
 
   out-of : lo * s * s ≤ i → i < hi * s * s → inRows lo hi (i / s / s) ≡ true
-  unfolding inRows
   out-of a b =
       let h : lo ≤ i / s / s = le-div-iff-mul-le {k = s} {x = lo} {y = i / s} ps .1 (le-div-iff-mul-le {k = s} {x = lo * s} {y = i} ps .1 a) in
       let l : i / s / s < hi = div-lt-iff-lt-mul {k = s} {x = i / s} {y = hi} ps .1 (div-lt-iff-lt-mul {k = s} {x = i} {y = hi * s} ps .1 b) in
-      rw (le-leb lo _ h, lt-ltb _ hi l)
+      rows-in lo hi (i / s / s) h l
 
 pub filled-clip : (f : ℕ → ℕ) (s lo hi : ℕ) (q p : List ℕ) → 0 < s → Filled f (s * s * s) (lo * s * s) (hi * s * s) q p → Clip s lo hi q p (tab (s * s * s) f)
 filled-clip f s lo hi q p ps l = record {

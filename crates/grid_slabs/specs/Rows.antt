@@ -5,11 +5,10 @@ use native.Mathlib.Omega.{arith}
 use native.Mathlib.Nat.{add-mul, mul-le-mul-right, div-lt-iff-lt-mul, le-div-iff-mul-le}
 use mathlib.Core.Bool.{Bool, true, false, _&&_}
 use mathlib.Core.List.{List}
-use lib.Dec.{ltb, leb}
-use borrow.Author.Tests.{ltb-true, ltb-false, leb-true, le-leb, lt-ltb, le-ltb}
-use Rattle.basics.specs.Bools.{by-bool}
+use lib.Dec.{ltb, leb, eqb}
+use borrow.Author.Tests.{ltb-true, ltb-false, leb-true, le-leb, lt-ltb, le-ltb, eqb-true, eqb-false}
+use Rattle.basics.specs.Bools.{by-bool, and-both}
 use Rattle.grid.specs.Cube.{steps}
-use Rattle.grid.specs.Grid.{below-2}
 
 -- z is one of lo ≤ z < hi
 unfoldable pub inRows : ℕ → ℕ → ℕ → Bool
@@ -19,12 +18,27 @@ inRows lo hi z = leb lo z && ltb z hi
 unfoldable pub overRows : ℕ → ℕ → ℕ → (ℕ → List ℕ → List ℕ) → List ℕ → List ℕ
 overRows s first last f c = steps ((last - first) * s) (λ (j : ℕ). f (first * s + j)) c
 
--- a slab that is none of these
+-- z is one of them, and then it lies so
+pub rows-in : (lo hi z : ℕ) → lo ≤ z → z < hi → inRows lo hi z ≡ true
+unfolding inRows
+rows-in lo hi z a b = rw (le-leb lo z a, lt-ltb z hi b)
+
+pub rows-is : (lo hi z : ℕ) → inRows lo hi z ≡ true → (lo ≤ z) × (z < hi)
+unfolding inRows
+rows-is lo hi z e = let b = and-both (leb lo z) (ltb z hi) e in (leb-true lo z (b .0), ltb-true z hi (b .1))
+
+-- it is none of them
 pub rows-off : (lo hi z : ℕ) → (lo ≤ z → z < hi → ⊥) → inRows lo hi z ≡ false
 unfolding inRows
 rows-off lo hi z n = by-bool (leb lo z)
-    (λ e. rw e (le-ltb z hi (by-bool (ltb z hi) (λ f. absurd (n (borrow.Author.Tests.leb-true lo z e) (ltb-true z hi f))) (λ f. ltb-false z hi f))))
+    (λ e. rw e (le-ltb z hi (by-bool (ltb z hi) (λ f. absurd (n (leb-true lo z e) (ltb-true z hi f))) (λ f. ltb-false z hi f))))
     (λ e. rw e)
+
+-- the slab k alone
+pub row-one : (k z : ℕ) → inRows k (k + 1) z ≡ eqb z k
+row-one k z = by-bool (eqb z k)
+    (λ e. let f = eqb-true z k e in rw e (rows-in k (k + 1) z (omega arith) (omega arith)))
+    (λ e. let f = eqb-false z k e in rw e (rows-off k (k + 1) z (λ a b. f (omega arith))))
 
 -- ---- steps
 
@@ -84,11 +98,6 @@ module _ (s first last : ℕ) (ps : 0 < s) (hf : first ≤ last) (hl : last ≤ 
       let e = rows-end s first last hf hl in
       let b : (first * s + j) / s < last = div-lt-iff-lt-mul {k = s} {x = first * s + j} {y = last} ps .1 (omega arith) in
       rw (le-leb first _ a, lt-ltb _ last b)
-
--- all rows
-pub rows-all : (s : ℕ) (f : ℕ → List ℕ → List ℕ) (c : List ℕ) → 0 < s → overRows s 0 s f c ≡ steps (s * s) f c
-rows-all s f c h =
-    sym (rows-only s 0 s h (omega arith) (omega arith) f c (λ k d l. absurd (omega arith)) (λ k d l m. absurd (let q = below-2 s k m in omega arith)))
 
 -- rows of columns that do the same
 pub rows-same : (s first last : ℕ) (f g : ℕ → List ℕ → List ℕ) (c : List ℕ) → first ≤ last → last ≤ s → ((k : ℕ) (d : List ℕ) → k < s * s → f k d ≡ g k d)

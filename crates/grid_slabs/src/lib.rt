@@ -1,4 +1,4 @@
-// Slabs of a chunk, its cells of equal z: which are meant, and one kept aside and compared with what stands there later.
+// Slabs of a chunk, each the cells of one z: which are meant, one filled, and one kept aside and compared with what stands there later.
 ghost use mathlib.Core.Path.{_≡_};
 ghost use Prim.Native.Nat.{_+_, _*_, _≤_, _<_};
 ghost use lib.ListN.{length, take, drop};

@@ -29,6 +29,7 @@ fn origin(size: usize, c: i32) -> i32
     ((c as i64) * (size as i64)) as i32
 }
 
+// The settings as the ground takes them.
 pub fn world_of(config: TerrainConfig) -> World
     requires { ⌜ Between 2 4096 (config .«world_height_blocks») × (mag (config .«sea_level») ≤ 4096) ⌝ }
     ensures { λ r. ⌜ r ≡ worldOf config ⌝ }
@@ -42,6 +43,7 @@ pub fn world_of(config: TerrainConfig) -> World
     }
 }
 
+// Where a chunk lies, and its size.
 pub fn frame_of(config: TerrainConfig, pos: ChunkPos) -> Frame
     requires { ⌜ Fine config pos ⌝ }
     ensures { λ r. ⌜ r ≡ frameOf config pos ⌝ }

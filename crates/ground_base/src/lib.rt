@@ -61,7 +61,7 @@ fn lay_rows(
     }
 }
 
-// No flag set.
+// Room for a row's flags.
 fn no_flags() -> [bool; PLACES]
     ensures { λ r. ⌜ length r ≡ 64 ⌝ }
 {

@@ -118,7 +118,7 @@ fn leaf(
     }
 }
 
-// A leaf, in those slabs alone.
+// A leaf, in the slabs from lo on below hi alone.
 fn leaf_in(
     cells: &mut [u16],
     size: usize,
@@ -143,7 +143,7 @@ fn leaf_in(
     }
 }
 
-// The square of 2 r + 1 leaves, x outer and z inner.
+// The square of 2 r + 1 leaves, x outer and z inner, in those slabs alone.
 fn layer(
     cells: &mut [u16],
     size: usize,

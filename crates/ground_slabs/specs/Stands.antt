@@ -17,7 +17,7 @@ use Rattle.column.specs.declared.Biome.{Biome}
 use Rattle.column.specs.declared.Biome.the-variants.{Desert, Mountain, Forest, Plains}
 use Rattle.grid.specs.Cube.{cellIndex, inside, putAt, seeAt, steps}
 use Rattle.grid.specs.Grid.{index-x, index-z, below-2}
-use Rattle.grid.specs.Grid.{inside-true, see-inside}
+use Rattle.grid.specs.Grid.{inside-true, see-inside, see-out}
 use Rattle.ground_cell.specs.Blocks.{selectBlock, forestBlock, plainsBlock, shoreBlock}
 use Rattle.ground_cell.specs.World.{Tall, Near, heightAt, biomeAt, biomeNumber, biomeNumbered, topAt}
 use Rattle.ground_cell.specs.World.{groundCell, columnCell, cellWith, cellUnder, baseCell, localOr, localY}
@@ -255,20 +255,10 @@ module _ (w : World) (o : Frame) (tall : Tall w) (near : Near o) where
       let m : May k = record { column = l; dry = b; grows = e; here = h } in
       let q : seeAt (o .size) x y z d ≡ 3 = see-inside (o .size) x y z d (record { x-in = x-in k; y-in = h; z-in = below-2 (o .size) k l }) ∙ g m in
       rw (a, b, e, q, f))
-      (λ f. let q : seeAt (o .size) x y z d ≡ 0 = see-off x y z d (ltb-false y (o .size) f) in
+      (λ f. let q : seeAt (o .size) x y z d ≡ 0 = see-out (o .size) x y z d (ltb-false y (o .size) f) in
       rw (a, b, e, q, f)))
       (λ e. rw (a, b, e))))
       (λ a. rw a)
-    where
-      see-off : (x y z : ℕ) (c : List ℕ) → o .size ≤ y → seeAt (o .size) x y z c ≡ 0
-      see-off x y z c h = unfold seeAt in rw (off x y z h)
-        where
-          off : (x y z : ℕ) → o .size ≤ y → inside (o .size) x y z ≡ false
-          off x y z h = unfold inside in rw (le-ltb y (o .size) h) (never (ltb x (o .size)))
-            where
-              never : (b : Bool) → cond b false false ≡ false
-              never true = refl
-              never false = refl
 
   stands-to : (n : ℕ) → n ≤ o .size * o .size
       → steps n (treeStep o (w .«sea_level») (topOf w o)) (bouldersOf o (topOf w o) (baseCells w o))
@@ -283,7 +273,7 @@ module _ (w : World) (o : Frame) (tall : Tall w) (near : Near o) where
       (λ m. trees-grass n m n c (omega arith) (boulders-grass n m (o .size * o .size) (baseCells w o) (base-grass n m)))
       ∙ ap (standStep o sea t n) (stands-to n (omega arith))
 
-  -- no tree's look at its surface ever fails
+  -- a tree's surface cell, where it is in the chunk, is grass: the trees are those that stand by their columns' tops
   pub trees-stand : treesOf o (w .«sea_level») (topOf w o) (bouldersOf o (topOf w o) (baseCells w o))
       ≡ steps (o .size * o .size) (standStep o (w .«sea_level») (topOf w o)) (bouldersOf o (topOf w o) (baseCells w o))
   unfolding treesOf

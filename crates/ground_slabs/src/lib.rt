@@ -1,1 +1,1 @@
-// Laws only: some slabs of the ground, those of equal z, laid without the others.
+// Laws only: some slabs of the ground laid without the others.

@@ -50,6 +50,7 @@ fn trunk_in(
     }
 }
 
+// A trunk, then the canopy around its top, in those slabs.
 fn grow(
     cells: &mut [u16],
     size: usize,
@@ -72,6 +73,7 @@ fn grow(
     canopy(cells, size, lo, hi, oy, x, z, wx, wz, y + trunk, r, n);
 }
 
+// A giant or a normal tree, in those slabs.
 fn plant(
     cells: &mut [u16],
     size: usize,
@@ -185,6 +187,7 @@ fn place_tree(
     }
 }
 
+// The tree of a column, if it has one, in those slabs; none stands less than 2 from the rim.
 fn tree_column(
     cells: &mut [u16],
     lo: usize,

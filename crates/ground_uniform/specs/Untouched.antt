@@ -1,14 +1,12 @@
 -- Boulders and trees whose levels lie outside a chunk change nothing in it (SCOPE 4.14). Assumes nothing.
-use mathlib.Core.Path.{_≡_, refl, _∙_}
-use Prim.Native.Nat.{ℕ, zero, suc, _+_, _-_, _*_, _/_, _%_, _≤_, _<_}
+use mathlib.Core.Path.{_≡_, refl}
+use Prim.Native.Nat.{ℕ, _+_, _-_, _*_, _/_, _%_, _≤_, _<_}
 use native.Mathlib.Omega.{arith}
 use mathlib.Core.Bool.{Bool, true, false, cond}
 use mathlib.Core.List.{List}
-use lib.Dec.{ltb, eqb}
+use lib.Dec.{eqb}
 use lib.IntN.{ℤ, pos, _+ℤ_, _-ℤ_}
 use lib.Signed.{ltZ}
-use borrow.Author.Tests.{le-ltb}
-use Rattle.grid.specs.Cube.{inside, putAt, seeAt, steps}
 use Rattle.ground_cell.specs.World.{localY}
 use Rattle.ground_cell.specs.declared.world.Frame.{Frame}
 use Rattle.ground_cell.specs.declared.world.Top.{Top}
@@ -16,33 +14,12 @@ use Rattle.ground_trees.specs.Signs.{hash2-plus}
 use Rattle.ground_trees.specs.Features.{insetIn, pillarStep, pillarOf, boulderHash, boulderBlocks, placeBoulder, boulderColumn, boulderStep, bouldersOf}
 use Rattle.ground_trees.specs.Features.{treeHash, treeGrows, placeTree, treeColumn, treeStep, treesOf}
 use Rattle.ground_uniform.specs.Reach.{boulder-most}
+use Rattle.grid.specs.Grid.{put-out, see-out}
+use Rattle.grid_slabs.specs.Rows.{steps-idle}
 
 either : (b : Bool) (c x : List ℕ) → x ≡ c → cond b x c ≡ c
 either true c x p = p
 either false c x p = refl
-
--- a level outside, whatever x and z
-out : (s x y z : ℕ) → s ≤ y → inside s x y z ≡ false
-unfolding inside
-out s x y z h = rw (le-ltb y s h) (never (ltb x s))
-  where
-    never : (b : Bool) → cond b false false ≡ false
-    never true = refl
-    never false = refl
-
-put-out : (s x y z v : ℕ) (c : List ℕ) → s ≤ y → putAt s x y z v c ≡ c
-unfolding putAt
-put-out s x y z v c h = rw (out s x y z h)
-
-see-out : (s x y z : ℕ) (c : List ℕ) → s ≤ y → seeAt s x y z c ≡ 0
-unfolding seeAt
-see-out s x y z c h = rw (out s x y z h)
-
--- steps that each change nothing
-steps-idle : (n : ℕ) (f : ℕ → List ℕ → List ℕ) (c : List ℕ) → ((k : ℕ) (d : List ℕ) → k < n → f k d ≡ d) → steps n f c ≡ c
-unfolding steps
-steps-idle zero f c h = refl
-steps-idle (suc n) f c h = h n (steps n f c) (omega arith) ∙ steps-idle n f c (λ k d l. h k d (omega arith))
 
 pillar-out : (s : ℕ) (oy : ℤ) (x z y n v : ℕ) (c : List ℕ) → ((j : ℕ) → j < n → s ≤ localY s oy (pos (y + j))) → pillarOf s oy x z y n v c ≡ c
 unfolding pillarOf pillarStep

@@ -1,4 +1,4 @@
--- `grid_slabs::compare_slab` meets its contract. Assumes nothing.
+-- The numbers are those of the first i cells. Assumes nothing.
 use mathlib.Core.Path.{_≡_, ap, ap₂, _∙_}
 use Prim.Native.Nat.{ℕ, _+_, _-_, _≤_, _<_}
 use native.Mathlib.Omega.{arith}

@@ -1,4 +1,4 @@
--- `grid_slabs::copy_slab` meets its contract. Assumes nothing.
+-- The first i cells are copied. Assumes nothing.
 use mathlib.Core.Path.{_≡_, refl, sym, ap, _∙_}
 use Prim.Native.Nat.{ℕ, _+_, _-_, _≤_, _<_}
 use native.Mathlib.Omega.{arith}

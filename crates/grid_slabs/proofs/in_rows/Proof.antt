@@ -1,4 +1,4 @@
--- `grid_slabs::in_rows` meets its contract. Assumes nothing.
+-- The two tests are the definition. Assumes nothing.
 use borrow.Author.Needs.{needs}
 use Rattle.grid_slabs.specs.Rows.{inRows}
 use Rattle.grid_slabs.proofs.in_rows.Statement.{statement}

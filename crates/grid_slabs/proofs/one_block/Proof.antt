@@ -1,4 +1,4 @@
--- `grid_slabs::one_block` meets its contract. Assumes nothing.
+-- The test is the definition. Assumes nothing.
 use borrow.Author.Tests.{eq-eqb, ne-eqb}
 use native.Mathlib.Omega.{arith}
 use Rattle.grid_slabs.proofs.one_block.Statement.{statement}
