@@ -89,11 +89,16 @@ typedef struct pl_session {
     size_t active;
 } pl_session;
 
-/* The answer of a session's edit or undo. line is 0; written is the number of groups that a batch wrote, else 0. */
+/* The answer of a session's edit or undo. line is 0; written is the number of groups that a batch wrote, else 0.
+ * previous is the id that the cell of a set held before, else 0. altered is how many cells hold another id than before
+ * the call, whatever cells were lent: a cell that a batch sets and sets back is not among them, and one that it sets
+ * twice is there once. A refused call, and one without a line, tells 0 for both. */
 typedef struct pl_reply {
     uint32_t number;
     size_t line;
     size_t written;
+    uint16_t previous;
+    size_t altered;
 } pl_reply;
 
 /* The answer of a call on bare cells. line is 0; the function's comment says what value is. */
@@ -127,7 +132,10 @@ typedef char pl_session_layout[sizeof(pl_session) == 56 && offsetof(pl_session, 
                                        offsetof(pl_session, count) == 36 && offsetof(pl_session, used) == 40
                                    ? 1
                                    : -1];
-typedef char pl_reply_layout[sizeof(pl_reply) == 24 && offsetof(pl_reply, line) == 8 ? 1 : -1];
+typedef char pl_reply_layout[sizeof(pl_reply) == 40 && offsetof(pl_reply, line) == 8 &&
+                                     offsetof(pl_reply, previous) == 24 && offsetof(pl_reply, altered) == 32
+                                 ? 1
+                                 : -1];
 typedef char pl_answer_layout[sizeof(pl_answer) == 24 && offsetof(pl_answer, line) == 8 ? 1 : -1];
 typedef char pl_batch_layout[sizeof(pl_batch_answer) == 32 && offsetof(pl_batch_answer, count) == 24 ? 1 : -1];
 typedef char pl_start_layout[sizeof(pl_start) == 88 && offsetof(pl_start, number) == 56 ? 1 : -1];
@@ -141,23 +149,26 @@ typedef char pl_start_layout[sizeof(pl_start) == 88 && offsetof(pl_start, number
 pl_start pl_session_fresh(pl_config config, pl_pos pos, uint16_t *cells, size_t cells_len, uint8_t *journal,
                           size_t journal_len);
 
-/* Sets one cell, and appends a line. Refused: 21, 7, 21 (the count), 24. */
+/* Sets one cell, appends a line, and tells the id that the cell held before and how many cells it altered, 0 or 1.
+ * Refused: 21 (also where the edit would move the count off its limits), 7, 24. */
 pl_reply pl_session_set(pl_session *session, uint16_t *cells, size_t cells_len, uint8_t *journal,
                         size_t journal_len, size_t x, size_t y, size_t z, uint16_t id);
 
-/* Fills a column from y 0 up to a height, which is clipped to the size, and appends a line. With x or z outside it
- * is accepted, changes nothing and has no line. Refused: 21, 21 (the count), 24. */
+/* Fills a column from y 0 up to a height, which is clipped to the size, appends a line, and tells how many cells it
+ * altered. With x or z outside it is accepted, changes nothing and has no line. Refused: 21 (also where the edit would
+ * move the count off its limits), 24. */
 pl_reply pl_session_fill_column(pl_session *session, uint16_t *cells, size_t cells_len, uint8_t *journal,
                                 size_t journal_len, size_t x, size_t z, size_t height, uint16_t id);
 
-/* Sets the cells of groups x, y, z, id in their order, and appends one line for all. edits_len counts numbers, four
- * to a group; one to three left over are ignored, an id counts modulo 65,536, a group outside is skipped. Where none
- * is inside it is accepted, changes nothing and has no line. Refused: 21, 8, 21 (the count), 24. */
+/* Sets the cells of groups x, y, z, id in their order, appends one line for all, and tells how many groups were inside
+ * and how many cells it altered. edits_len counts numbers, four to a group; one to three left over are ignored, an id
+ * counts modulo 65,536, a group outside is skipped. Where none is inside it is accepted, changes nothing and has no
+ * line. Refused: 21 (also where the edit would move the count off its limits), 8, 24. */
 pl_reply pl_session_set_blocks(pl_session *session, uint16_t *cells, size_t cells_len, uint8_t *journal,
                                size_t journal_len, const uint32_t *edits, size_t edits_len);
 
-/* Takes the last active edit back: the cells are laid anew without it, and a line is appended. Refused: 21, 22, 23,
- * 24 (fewer than 2 bytes left). */
+/* Takes the last active edit back: the cells are laid anew without it, and a line is appended. It tells how many cells
+ * it altered. Refused: 21, 22, 23, 24 (fewer than 2 bytes left). */
 pl_reply pl_session_undo(pl_session *session, uint16_t *cells, size_t cells_len, uint8_t *journal,
                          size_t journal_len);
 

@@ -1,4 +1,5 @@
 //! Compares the product's static library with the Rust original, and times both.
+pub mod altered;
 pub mod bare;
 pub mod chunk;
 pub mod faults;

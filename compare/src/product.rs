@@ -3,7 +3,7 @@
 //! that must be 0. Here they are passed and tested.
 use crate::bare::{BatchReply, Reply};
 use crate::ground::{Laid, Site};
-use crate::model::{Call, Lent, Record, Refusal};
+use crate::model::{self, Call, Lent, Record, Refusal};
 use crate::session::Calls;
 use perillahinge::raw::{self, Config, Pos, Session};
 
@@ -186,7 +186,7 @@ impl Calls for Product {
         }
     }
 
-    fn call(&self, lent: &mut Lent, call: &Call) -> Result<usize, u32> {
+    fn call(&self, lent: &mut Lent, call: &Call) -> model::Reply {
         let mut record_lent = session(&lent.record);
         let s = &mut record_lent;
         let (c, n) = (lent.cells.as_mut_ptr(), lent.cells.len());
@@ -202,10 +202,12 @@ impl Calls for Product {
             }
         };
         lent.record = record(&record_lent);
-        let rest = reply.number == 0 || reply.written == 0;
-        match number(reply.number, reply.line == 0 && rest) {
-            0 => Ok(reply.written),
-            number => Err(number),
+        model::Reply {
+            number: reply.number,
+            line: reply.line,
+            written: reply.written,
+            previous: reply.previous,
+            altered: reply.altered,
         }
     }
 

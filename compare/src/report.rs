@@ -7,6 +7,8 @@ const SHOWN: u64 = 10;
 pub struct Report {
     pub comparisons: u64,
     pub differences: u64,
+    /// The differences of whole replies, which are among all of them.
+    pub of_replies: u64,
     quiet: bool,
 }
 
@@ -28,6 +30,12 @@ impl Report {
                 println!("difference: {}", text());
             }
         }
+    }
+
+    /// One comparison of whole replies, whose differences are counted apart too.
+    pub fn same_reply(&mut self, equal: bool, text: impl FnOnce() -> String) {
+        self.of_replies += u64::from(!equal);
+        self.same(equal, text);
     }
 
     /// A failure that is no comparison, as a kind of chunk that was never met.

@@ -1,10 +1,11 @@
 //! Sessions and reopening: any library of these calls against the model and the reference model of
 //! model.rs. The calls are a trait, so that the tests can run the driver on the model itself and on
 //! broken ones.
+use crate::altered;
 use crate::chunk::STALE;
 use crate::ground::Site;
 use crate::journals;
-use crate::model::{self, Call, Lent, Record, Reference, Refusal, Reopened};
+use crate::model::{self, Call, Lent, Record, Reference, Refusal, Reopened, Reply};
 use crate::product::Product;
 use crate::report::Report;
 use crate::rng::Rng;
@@ -13,9 +14,8 @@ use crate::stack;
 /// The calls of a library. Each changes what is lent to it, as the library would.
 pub trait Calls {
     fn fresh(&self, site: &Site, cells: &mut [u16], journal: &mut [u8]) -> Result<Record, u32>;
-    /// The record after the call, and how many groups a batch wrote; or the refusal's number and
-    /// the record that came back with it.
-    fn call(&self, lent: &mut Lent, call: &Call) -> Result<usize, u32>;
+    /// The whole reply; what is lent is then as the call left it.
+    fn call(&self, lent: &mut Lent, call: &Call) -> Reply;
     fn reopen(
         &self,
         journal: &[u8],
@@ -32,6 +32,7 @@ pub struct Amount {
     pub cut_sessions: u64,
     pub hostile: u64,
     pub surfaces: u64,
+    pub altered: u64,
 }
 
 pub const FULL: Amount = Amount {
@@ -40,6 +41,7 @@ pub const FULL: Amount = Amount {
     cut_sessions: 220,
     hostile: 120_000,
     surfaces: 400,
+    altered: 60_000,
 };
 
 /// Reopens a journal on both sides: answer, record, lines, trailing bytes and cells.
@@ -134,27 +136,34 @@ fn started(
     wanted.ok()
 }
 
-/// One call on both sides. Answers what the model leaves.
-fn called(report: &mut Report, calls: &impl Calls, lent: &Lent, call: &Call) -> (Lent, u32) {
-    let wanted = model::call(lent, call);
+/// Number, line and groups written: a reply without what it tells of the cells.
+fn outcome(reply: &Reply) -> (u32, usize, usize) {
+    (reply.number, reply.line, reply.written)
+}
+
+/// One call on both sides: what it leaves, and the whole reply. Answers the model's.
+pub fn called(report: &mut Report, calls: &impl Calls, lent: &Lent, call: &Call) -> (Lent, Reply) {
+    let (left, wanted) = model::replied(lent, call);
     let mut ours = lent.clone();
     let answer = calls.call(&mut ours, call);
-    let (left, said) = match wanted {
-        Ok((next, written)) => (next, Ok(written)),
-        Err(number) => (lent.clone(), Err(number)),
-    };
-    report.same(answer == said && ours == left, || {
+    report.same(outcome(&answer) == outcome(&wanted) && ours == left, || {
         format!(
-            "{call:?} on {:?}: wanted {said:?} and {:?}, product {answer:?} and {:?}",
+            "{call:?} on {:?}: wanted {wanted:?} and {:?}, product {answer:?} and {:?}",
             lent.record, left.record, ours.record
         )
     });
-    (left, said.err().unwrap_or(0))
+    report.same_reply(answer == wanted, || {
+        format!(
+            "{call:?} on {:?}: wanted {wanted:?}, product {answer:?}",
+            lent.record
+        )
+    });
+    (left, wanted)
 }
 
 /// A session of random calls, held to the reference model after each. Answers the session's states, the fresh one
 /// first.
-fn session(report: &mut Report, rng: &mut Rng, calls: &impl Calls, many: u64) -> Option<Vec<Lent>> {
+pub fn session(report: &mut Report, rng: &mut Rng, calls: &impl Calls, many: u64) -> Option<Vec<Lent>> {
     let site = journals::site(rng);
     let length = rng.pick(&[60, 120, 400, 2000, 32_768]);
     let mut lent = started(report, calls, &site, site.chunk_size.pow(3), length)?;
@@ -162,17 +171,20 @@ fn session(report: &mut Report, rng: &mut Rng, calls: &impl Calls, many: u64) ->
     let mut states = vec![lent.clone()];
     for _ in 0..many {
         let call = journals::call(rng, site.chunk_size);
-        let (left, number) = called(report, calls, &lent, &call);
-        let refused = reference.call(&call);
+        let (left, reply) = called(report, calls, &lent, &call);
+        let wanted = reference.reply(&call);
         lent = left;
         let r = &lent.record;
-        let same = number == refused
+        let same = reply.number == wanted.number
             && lent.cells == reference.cells()
             && lent.journal.get(..r.used) == Some(&reference.bytes[..])
             && r.active == reference.active.len()
             && r.count as usize == crate::bare::non_air(&lent.cells);
         report.same(same, || {
-            format!("{call:?}: the session is not the reference model, {number} against {refused}")
+            format!("{call:?}: the session is not the reference model, {reply:?} against {wanted:?}")
+        });
+        report.same_reply(reply == wanted, || {
+            format!("{call:?}: the reference model replies {wanted:?}, the model {reply:?}")
         });
         states.push(lent.clone());
     }
@@ -180,7 +192,7 @@ fn session(report: &mut Report, rng: &mut Rng, calls: &impl Calls, many: u64) ->
 }
 
 /// A session cut at every byte, with tails of zeros (SCOPE 9.2, 9.5): the reopened one has the cells, count, used bytes
-/// and active edits that the first one had after the last call whose line is whole, and goes on with the same answers.
+/// and active edits that the first one had after the last call whose line is whole. At one cut in eight both go on.
 fn cuts(report: &mut Report, rng: &mut Rng, calls: &impl Calls, states: &[Lent]) {
     let last = states.last().expect("a session has a state");
     for q in 0..=last.record.used {
@@ -216,19 +228,32 @@ fn cuts(report: &mut Report, rng: &mut Rng, calls: &impl Calls, states: &[Lent])
     }
 }
 
-/// Further calls on the reopened and on the first session: same answers, cells and used bytes.
+/// Further calls on the first session, on the reopened one and on the model of the first, which goes on by itself: what
+/// either call leaves and its whole reply must be the model's. Behind the used bytes each keeps what its journal has.
 fn go_on(report: &mut Report, rng: &mut Rng, calls: &impl Calls, mut second: Lent, mut first: Lent) {
+    let mut model = first.clone();
     for _ in 0..6 {
-        let call = journals::call(rng, first.record.site.chunk_size);
+        let call = journals::call(rng, model.record.site.chunk_size);
+        let (left, wanted) = model::replied(&model, &call);
+        let mut taken_over = Lent {
+            journal: second.journal.clone(),
+            ..left.clone()
+        };
+        let used = left.record.used;
+        taken_over.journal[..used].copy_from_slice(&left.journal[..used]);
         let (a, b) = (calls.call(&mut first, &call), calls.call(&mut second, &call));
-        let used = first.record.used;
-        let same = a == b
-            && first.record == second.record
-            && first.cells == second.cells
-            && first.journal.get(..used) == second.journal.get(..used);
-        report.same(same, || {
-            format!("{call:?} after a reopening: {a:?} against {b:?}")
+        let same = [&a, &b].iter().all(|reply| outcome(reply) == outcome(&wanted));
+        report.same(same && first == left && second == taken_over, || {
+            let records = (&first.record, &second.record);
+            format!(
+                "{call:?} after a reopening: wanted {wanted:?} and {:?}, product {a:?}, {b:?} and {records:?}",
+                left.record
+            )
         });
+        report.same_reply(a == wanted && b == wanted, || {
+            format!("{call:?} after a reopening: wanted {wanted:?}, first {a:?}, second {b:?}")
+        });
+        model = left;
     }
 }
 
@@ -315,19 +340,31 @@ fn hostile(report: &mut Report, rng: &mut Rng, calls: &impl Calls, many: u64) {
                 spoil(rng, &mut bad);
             }
             let call = journals::call(rng, lent.record.site.chunk_size);
-            let (_, number) = called(report, calls, &bad, &call);
-            *met.entry(number).or_insert(0u64) += 1;
+            let (_, reply) = called(report, calls, &bad, &call);
+            *met.entry(reply.number).or_insert(0u64) += 1;
             done += 1;
         }
     }
     println!("hostile records: {done} calls, by refusal (0: accepted) {met:?}");
 }
 
+/// Cells that an undo is tried on beside the session's own: any, all equal, or moved along; and its own one id off, in
+/// this cell or in every one.
+fn others(rng: &mut Rng, own: &[u16], only: Option<usize>) -> [Vec<u16>; 2] {
+    let mut far = own.to_vec();
+    match rng.below(3) {
+        0 => far.iter_mut().for_each(|c| *c = rng.below(12) as u16),
+        1 => far.fill(rng.pick(&[0, 1, 9, 65_535])),
+        _ => far.rotate_left(rng.below(own.len() as u64) as usize),
+    }
+    [far, altered::one_off(own, only)]
+}
+
 /// Undo on chunks of many sizes at the surface and next to it, where crowns and batches reach over several z: on the
 /// session's own cells and on others, which an undo lays anew all the same.
 fn surfaces(report: &mut Report, rng: &mut Rng, calls: &impl Calls, many: u64) {
-    let (mut undone, mut leaves) = (0, 0);
-    for _ in 0..many {
+    let (mut undone, mut leaves, mut most) = (0, 0, 0);
+    for k in 0..many {
         let site = journals::surface(rng);
         let size = site.chunk_size;
         let Some(mut lent) = started(report, calls, &site, size.pow(3), 32_768) else {
@@ -338,21 +375,25 @@ fn surfaces(report: &mut Report, rng: &mut Rng, calls: &impl Calls, many: u64) {
             let edit = journals::edit(rng, size);
             lent = called(report, calls, &lent, &edit).0;
         }
-        let mut other = lent.clone();
-        match rng.below(3) {
-            0 => other.cells.iter_mut().for_each(|c| *c = rng.below(12) as u16),
-            1 => other.cells.fill(rng.pick(&[0, 1, 9, 65_535])),
-            _ => other.cells.rotate_left(rng.below(size.pow(3) as u64) as usize),
-        }
-        for from in [lent, other] {
-            let (_, number) = called(report, calls, &from, &Call::Undo);
-            undone += u64::from(number == 0);
+        let only = (k % 2 == 1).then_some(size.pow(3) / 3);
+        let mut all = vec![lent.cells.clone()];
+        all.extend(others(rng, &lent.cells, only));
+        for cells in all {
+            lent.cells = cells;
+            let (_, reply) = called(report, calls, &lent, &Call::Undo);
+            undone += u64::from(reply.number == 0);
+            most = most.max(reply.altered);
         }
     }
-    report.same(many < 20 || (leaves > 0 && undone > many), || {
+    report.same(many < 20 || (leaves > 0 && undone > 2 * many), || {
         "no chunk at the surface had a tree, or undos were refused".into()
     });
-    println!("chunks at the surface: {many}, {leaves} with trees, {undone} undone");
+    report.same(many < 20 || most > 65_535, || {
+        format!("no undo altered more than {most} cells")
+    });
+    println!(
+        "chunks at the surface: {many}, {leaves} with trees, {undone} undone, {most} cells altered by one"
+    );
 }
 
 /// Fresh sessions at and around each limit.
@@ -397,6 +438,7 @@ pub fn compare(report: &mut Report, calls: &impl Calls, amount: &Amount) {
     }
     hostile(report, &mut rng, calls, amount.hostile);
     surfaces(report, &mut rng, calls, amount.surfaces);
+    altered::compare(report, calls, amount.altered);
     println!(
         "sessions: {} comparisons, {cut} sessions cut at every byte",
         report.comparisons - before

@@ -1,11 +1,13 @@
-//! The model against the scope's own example and against the reference model, and the session driver
-//! on the model itself and on libraries with a slip each: it must find every one of them. The checks
-//! of failing reads and writes, likewise, on a program made of the model.
+//! The model against the scope's own example, against replies worked out by hand and against the
+//! reference model, and the session driver on the model itself and on libraries with a slip each: it
+//! must find every one of them. The checks of failing reads and writes, likewise, on a program made of
+//! the model.
 use compare::faults::{self, Program};
 use compare::ground::Site;
-use compare::model::{self, Call, Lent, Record, Refusal};
+use compare::model::{self, Call, Lent, Record, Reference, Refusal, Reply};
 use compare::report::Report;
 use compare::session::{compare, Amount, Calls};
+use std::cell::Cell;
 use std::path::Path;
 
 const SMALL: Amount = Amount {
@@ -14,6 +16,7 @@ const SMALL: Amount = Amount {
     cut_sessions: 12,
     hostile: 3000,
     surfaces: 25,
+    altered: 3000,
 };
 
 /// The slip of a library that is otherwise the model.
@@ -34,23 +37,43 @@ enum Slip {
     SetOutsideAccepted,
     RefusalChangesRecord,
     WritesBeforeTheTest,
+    CountsTwiceOnceReopened,
+    PreviousAfterTheWrite,
+    PreviousOfAColumn,
+    PreviousOnARefusal,
+    /// A cell is told beside this refusal.
+    AlteredBeside(u32),
+    AlteredByHeight,
+    AlteredByHeightOutside,
+    AlteredByGroups,
+    AlteredByGroupsOutside,
+    AlteredByWrites,
+    AlteredByCount,
+    UndoAltersNothing,
+    UndoAltersTheJournalsCells,
+    AlteredInSixteenBits,
 }
 
-struct Double(Slip);
+/// A library with a slip. It notes a reopening until the next fresh session, as no library should.
+struct Double {
+    slip: Slip,
+    reopened: Cell<bool>,
+}
 
 impl Calls for Double {
     fn fresh(&self, site: &Site, cells: &mut [u16], journal: &mut [u8]) -> Result<Record, u32> {
+        self.reopened.set(false);
         match model::fresh(site, cells, journal) {
             Ok(mut lent) => {
                 cells.copy_from_slice(&lent.cells);
                 journal.copy_from_slice(&lent.journal);
-                if self.0 == Slip::CountNeverCounted {
+                if self.slip == Slip::CountNeverCounted {
                     lent.record.count = 0;
                 }
                 Ok(lent.record)
             }
             Err(number) => {
-                if self.0 == Slip::WritesBeforeTheTest && number == 24 && !cells.is_empty() {
+                if self.slip == Slip::WritesBeforeTheTest && number == 24 && !cells.is_empty() {
                     cells[0] = 1;
                 }
                 Err(number)
@@ -58,43 +81,22 @@ impl Calls for Double {
         }
     }
 
-    fn call(&self, lent: &mut Lent, call: &Call) -> Result<usize, u32> {
-        if self.0 == Slip::EarlyFull && lent.record.active == 5 && !matches!(call, Call::Undo) {
-            return Err(24);
+    fn call(&self, lent: &mut Lent, call: &Call) -> Reply {
+        if self.slip == Slip::EarlyFull && lent.record.active == 5 && !matches!(call, Call::Undo) {
+            return Reply::refused(24);
         }
-        match model::call(lent, call) {
-            Ok((mut next, written)) => {
-                let undo = matches!(call, Call::Undo);
-                if self.0 == Slip::UndoKeepsCount && undo {
-                    next.record.count = lent.record.count;
-                }
-                if self.0 == Slip::UndoOnlyWrites && undo {
-                    next.cells = lent.cells.clone();
-                }
-                let size = lent.record.site.chunk_size;
-                if self.0 == Slip::UndoLeavesTheLastSlab && undo && size > 6 {
-                    let last = size * size * (size - 1);
-                    next.cells[last..].copy_from_slice(&lent.cells[last..]);
-                }
-                if self.0 == Slip::UndoDropsLeaves && undo && size > 6 {
-                    let middle = size * size * (size / 2);
-                    let slab = &mut next.cells[middle..middle + size * size];
-                    slab.iter_mut().filter(|c| **c == 9).for_each(|c| *c = 0);
-                }
-                if self.0 == Slip::NoLineEnd && next.record.used > lent.record.used {
-                    next.journal[next.record.used - 1] = b'?';
-                }
-                *lent = next;
-                Ok(written)
-            }
-            Err(7) if self.0 == Slip::SetOutsideAccepted => Ok(0),
-            Err(number) => {
-                if self.0 == Slip::RefusalChangesRecord && number == 24 {
-                    lent.record.used += 1;
-                }
-                Err(number)
-            }
+        let (mut next, mut reply) = model::replied(lent, call);
+        if self.slip == Slip::SetOutsideAccepted && reply.number == 7 {
+            reply.number = 0;
         }
+        self.tell(lent, &next, call, &mut reply);
+        if reply.number == 0 {
+            self.leave(lent, &mut next, call);
+        } else if self.slip == Slip::RefusalChangesRecord && reply.number == 24 {
+            next.record.used += 1;
+        }
+        *lent = next;
+        reply
     }
 
     fn reopen(
@@ -103,8 +105,9 @@ impl Calls for Double {
         held: usize,
         cells: &mut [u16],
     ) -> Result<(Record, usize, usize), Refusal> {
+        self.reopened.set(true);
         let mut text = journal.to_vec();
-        if self.0 == Slip::ReadsCutLine && held < text.len() {
+        if self.slip == Slip::ReadsCutLine && held < text.len() {
             text[held] = b'\n';
             return self.opened(&text, held + 1, cells);
         }
@@ -113,7 +116,7 @@ impl Calls for Double {
 
     fn committed(&self, journal: &[u8], held: usize) -> usize {
         let part = model::committed(journal, held).len();
-        if self.0 == Slip::CountsOneByteShort {
+        if self.slip == Slip::CountsOneByteShort {
             part.saturating_sub(1)
         } else {
             part
@@ -122,6 +125,71 @@ impl Calls for Double {
 }
 
 impl Double {
+    /// The slips in what an accepted call leaves.
+    fn leave(&self, lent: &Lent, next: &mut Lent, call: &Call) {
+        let (undo, size) = (matches!(call, Call::Undo), lent.record.site.chunk_size);
+        match self.slip {
+            Slip::UndoKeepsCount if undo => next.record.count = lent.record.count,
+            Slip::UndoOnlyWrites if undo => next.cells = lent.cells.clone(),
+            Slip::UndoLeavesTheLastSlab if undo && size > 6 => {
+                let last = size * size * (size - 1);
+                next.cells[last..].copy_from_slice(&lent.cells[last..]);
+            }
+            Slip::UndoDropsLeaves if undo && size > 6 => {
+                let middle = size * size * (size / 2);
+                let slab = &mut next.cells[middle..middle + size * size];
+                slab.iter_mut().filter(|c| **c == 9).for_each(|c| *c = 0);
+            }
+            Slip::CountsTwiceOnceReopened if self.reopened.get() => {
+                next.record.active += usize::from(next.record.active > lent.record.active)
+            }
+            Slip::NoLineEnd if next.record.used > lent.record.used => {
+                next.journal[next.record.used - 1] = b'?';
+            }
+            _ => {}
+        }
+    }
+
+    /// The slips in what a call tells of the cells, from those lent to those left.
+    fn tell(&self, lent: &Lent, next: &Lent, call: &Call, reply: &mut Reply) {
+        let size = lent.record.site.chunk_size;
+        let (line, full) = (next.record.used > lent.record.used, reply.number == 24);
+        let outside = reply.number == 0 && !line;
+        match (self.slip, call) {
+            (Slip::PreviousAfterTheWrite, Call::Set(_, id)) if line => reply.previous = *id,
+            (Slip::PreviousOfAColumn, Call::Column { x, z, .. }) if line => {
+                reply.previous = lent.cells[x + z * size * size]
+            }
+            (Slip::PreviousOnARefusal, Call::Set([x, y, z], _)) if full => {
+                reply.previous = lent.cells[x + y * size + z * size * size]
+            }
+            (Slip::AlteredBeside(number), _) if reply.number == number => reply.altered = 1,
+            (Slip::AlteredByHeight, Call::Column { height, .. }) if line => {
+                reply.altered = (*height).min(size)
+            }
+            (Slip::AlteredByHeightOutside, Call::Column { height, .. }) if outside => {
+                reply.altered = (*height).min(size)
+            }
+            (Slip::AlteredByGroups, Call::Batch(_)) => reply.altered = reply.written,
+            (Slip::AlteredByGroupsOutside, Call::Batch(numbers)) if outside => {
+                reply.altered = numbers.len() / 4
+            }
+            (Slip::AlteredByWrites, Call::Batch(numbers)) if line => {
+                reply.altered = altering_writes(lent, numbers)
+            }
+            (Slip::AlteredByCount, _) if line => {
+                reply.altered = next.record.count.abs_diff(lent.record.count) as usize
+            }
+            (Slip::UndoAltersNothing, Call::Undo) => reply.altered = 0,
+            (Slip::UndoAltersTheJournalsCells, Call::Undo) if line => {
+                let own = model::reopen(&lent.journal, lent.record.used, lent.cells.len());
+                reply.altered = model::differing(&own.expect("an undone journal").cells, &next.cells)
+            }
+            (Slip::AlteredInSixteenBits, _) => reply.altered %= 65_536,
+            _ => {}
+        }
+    }
+
     fn opened(
         &self,
         journal: &[u8],
@@ -129,12 +197,12 @@ impl Double {
         cells: &mut [u16],
     ) -> Result<(Record, usize, usize), Refusal> {
         let mut opened = model::reopen(journal, held, cells.len()).map_err(|mut r| {
-            if self.0 == Slip::LinesFromZero && r.line > 0 {
+            if self.slip == Slip::LinesFromZero && r.line > 0 {
                 r.line -= 1;
             }
             r
         })?;
-        if self.0 == Slip::FreshGroundOnReopening {
+        if self.slip == Slip::FreshGroundOnReopening {
             opened.cells = model::laid(&opened.record.site, &[]);
         }
         cells.copy_from_slice(&opened.cells);
@@ -142,10 +210,26 @@ impl Double {
     }
 }
 
-fn differences(slip: Slip) -> u64 {
+/// How many groups of a batch put another id than the one that they find: a cell set and set back counts twice.
+fn altering_writes(lent: &Lent, numbers: &[u32]) -> usize {
+    let (size, mut cells) = (lent.record.site.chunk_size as u32, lent.cells.clone());
+    let inside = numbers
+        .chunks_exact(4)
+        .filter(|g| g[..3].iter().all(|&c| c < size));
+    inside
+        .filter(|g| {
+            let at = (g[0] + g[1] * size + g[2] * size * size) as usize;
+            std::mem::replace(&mut cells[at], g[3] as u16) != g[3] as u16
+        })
+        .count()
+}
+
+/// The differences that a slip makes: those of whole replies, and all others.
+fn differences(slip: Slip) -> (u64, u64) {
     let mut report = Report::quiet();
-    compare(&mut report, &Double(slip), &SMALL);
-    report.differences
+    let reopened = Cell::new(false);
+    compare(&mut report, &Double { slip, reopened }, &SMALL);
+    (report.of_replies, report.differences - report.of_replies)
 }
 
 #[test]
@@ -170,7 +254,7 @@ fn refusals_of_the_program() {
 
 #[test]
 fn the_model_is_the_reference_model() {
-    assert_eq!(differences(Slip::None), 0);
+    assert_eq!(differences(Slip::None), (0, 0));
 }
 
 #[test]
@@ -190,10 +274,170 @@ fn every_slip_is_found() {
         ("set outside accepted", Slip::SetOutsideAccepted),
         ("refusal changes the record", Slip::RefusalChangesRecord),
         ("writes before the test", Slip::WritesBeforeTheTest),
+        // The first tablet and the next have it alike: only the model has not.
+        ("active twice once reopened", Slip::CountsTwiceOnceReopened),
     ];
     for (name, slip) in slips {
-        assert!(differences(slip) > 0, "{name} was not found");
+        assert!(differences(slip).1 > 0, "{name} was not found");
     }
+}
+
+/// Nothing but the comparison of whole replies finds these.
+#[test]
+fn every_slip_of_a_reply_is_found() {
+    let slips = [
+        ("the id after the write", Slip::PreviousAfterTheWrite),
+        ("an id of a column", Slip::PreviousOfAColumn),
+        ("an id with a refusal", Slip::PreviousOnARefusal),
+        ("a cell altered with 7", Slip::AlteredBeside(7)),
+        ("a cell altered with 8", Slip::AlteredBeside(8)),
+        ("a cell altered with 21", Slip::AlteredBeside(21)),
+        ("a cell altered with 22", Slip::AlteredBeside(22)),
+        ("a cell altered with 23", Slip::AlteredBeside(23)),
+        ("a cell altered with 24", Slip::AlteredBeside(24)),
+        ("a column's height for the altered cells", Slip::AlteredByHeight),
+        ("the height of a column outside", Slip::AlteredByHeightOutside),
+        ("a batch's groups for the altered cells", Slip::AlteredByGroups),
+        ("the groups of a batch outside", Slip::AlteredByGroupsOutside),
+        ("a cell set and set back counts", Slip::AlteredByWrites),
+        ("the count's move for the altered cells", Slip::AlteredByCount),
+        ("an undo alters nothing", Slip::UndoAltersNothing),
+        (
+            "an undo tells of the journal's cells",
+            Slip::UndoAltersTheJournalsCells,
+        ),
+        ("altered cells in 16 bits", Slip::AlteredInSixteenBits),
+    ];
+    for (name, slip) in slips {
+        let (of_replies, others) = differences(slip);
+        assert!(of_replies > 0, "{name}: not found");
+        assert_eq!(others, 0, "{name}: found elsewhere");
+    }
+}
+
+/// Eight cells of water (5), as in the scope's example, and their lent journal's length.
+const SEA: Site = Site {
+    seed: 0,
+    sea_level: 4096,
+    world_height_blocks: 256,
+    chunk_size: 2,
+    cx: 0,
+    cy: 128,
+    cz: 0,
+};
+const LENGTH: usize = 200;
+
+fn sea() -> Lent {
+    let lent = model::fresh(&SEA, &[0; 8], &[0; LENGTH]).expect("settings within the limits");
+    assert_eq!(lent.cells, [5; 8]);
+    lent
+}
+
+fn column([x, z]: [usize; 2], height: usize, id: u16) -> Call {
+    Call::Column { x, z, height, id }
+}
+
+/// What an accepted call tells: the groups written, the id replaced, the cells altered.
+fn tells(written: usize, previous: u16, altered: usize) -> Reply {
+    Reply {
+        number: 0,
+        line: 0,
+        written,
+        previous,
+        altered,
+    }
+}
+
+/// Calls on eight cells of water, with replies worked out by hand.
+fn worked_out() -> Vec<(Call, Reply)> {
+    vec![
+        (Call::Set([0, 0, 0], 9), tells(0, 5, 1)),
+        (Call::Set([0, 0, 0], 9), tells(0, 9, 0)),
+        (Call::Set([0, 0, 0], 0), tells(0, 9, 1)),
+        // The first cell is air and the one above it water.
+        (column([0, 0], 7, 5), tells(0, 0, 1)),
+        (column([0, 0], 0, 3), tells(0, 0, 0)),
+        (column([1, 1], usize::MAX, 3), tells(0, 0, 2)),
+        // (1, 0, 0) is set and set back; (0, 1, 0) is set twice; (1, 1, 1) holds its 3 already; one lies outside.
+        (
+            Call::Batch(vec![
+                1, 0, 0, 8, 0, 1, 0, 8, 1, 0, 0, 65_541, 2, 0, 0, 1, 0, 1, 0, 7, 1, 1, 1, 3, 9,
+            ]),
+            tells(5, 0, 1),
+        ),
+        (Call::Batch(vec![0, 0, 0, 6, 0, 0, 1, 6]), tells(2, 0, 2)),
+        // Without a line.
+        (column([2, 0], 1, 9), tells(0, 0, 0)),
+        (Call::Batch(vec![0, 0, 2, 1, 7]), tells(0, 0, 0)),
+        (Call::Batch(vec![]), tells(0, 0, 0)),
+        // Refused.
+        (Call::Set([0, 2, 0], 1), Reply::refused(7)),
+        (Call::Batch(vec![0; 68]), Reply::refused(8)),
+        // The two batches, the columns (two cells, none, then 5 to the air that it covered), and the sets: 0 to 9, 9
+        // to 9, 9 to 5.
+        (Call::Undo, tells(0, 0, 2)),
+        (Call::Undo, tells(0, 0, 1)),
+        (Call::Undo, tells(0, 0, 2)),
+        (Call::Undo, tells(0, 0, 0)),
+        (Call::Undo, tells(0, 0, 1)),
+        (Call::Undo, tells(0, 0, 1)),
+        (Call::Undo, tells(0, 0, 0)),
+        (Call::Undo, tells(0, 0, 1)),
+        (Call::Undo, Reply::refused(23)),
+    ]
+}
+
+#[test]
+fn replies_worked_out_by_hand() {
+    let (mut lent, mut reference) = (sea(), Reference::new(SEA, LENGTH));
+    for (call, wanted) in worked_out() {
+        let (left, reply) = model::replied(&lent, &call);
+        assert_eq!(reply, wanted, "{call:?}");
+        assert_eq!(reference.reply(&call), wanted, "the reference model on {call:?}");
+        lent = left;
+    }
+}
+
+#[test]
+fn refusals_tell_nothing_of_the_cells() {
+    let mut lent = model::replied(&sea(), &Call::Set([1, 1, 1], 9)).0;
+    lent.journal.truncate(lent.record.used);
+    for call in [Call::Set([1, 1, 1], 7), column([0, 0], 2, 7), Call::Undo] {
+        assert_eq!(model::replied(&lent, &call).1, Reply::refused(24), "{call:?}");
+    }
+    lent.record.count = 9;
+    assert_eq!(
+        model::replied(&lent, &Call::Set([1, 1, 1], 7)).1,
+        Reply::refused(21)
+    );
+    lent.record.count = 8;
+    lent.journal[0] = b'g';
+    assert_eq!(model::replied(&lent, &Call::Undo).1, Reply::refused(22));
+}
+
+/// The journal sets (0, 0, 0) to 9; the lent cells are others.
+#[test]
+fn replies_are_of_the_lent_cells() {
+    let own = model::replied(&sea(), &Call::Set([0, 0, 0], 9)).0;
+    let with = |cells: [u16; 8], call: Call| {
+        let lent = Lent {
+            cells: cells.to_vec(),
+            ..own.clone()
+        };
+        model::replied(&lent, &call).1
+    };
+    // Back to eight cells of water: its own cells, then water, each id one off, one id off, air.
+    assert_eq!(with([9, 5, 5, 5, 5, 5, 5, 5], Call::Undo), tells(0, 0, 1));
+    assert_eq!(with([5; 8], Call::Undo), tells(0, 0, 0));
+    assert_eq!(with([10, 6, 6, 6, 6, 6, 6, 6], Call::Undo), tells(0, 0, 8));
+    assert_eq!(with([9, 5, 5, 5, 5, 5, 5, 6], Call::Undo), tells(0, 0, 2));
+    assert_eq!(with([0; 8], Call::Undo), tells(0, 0, 8));
+    // (1, 0, 1) is the sixth cell.
+    let cells = [1, 2, 3, 4, 65_535, 65_534, 7, 8];
+    assert_eq!(with(cells, Call::Set([1, 0, 1], 5)), tells(0, 65_534, 1));
+    assert_eq!(with(cells, column([1, 0], 2, 4)), tells(0, 0, 1));
+    let batch = Call::Batch(vec![0, 0, 1, 1, 0, 1, 1, 7, 0, 0, 1, 65_535]);
+    assert_eq!(with(cells, batch), tells(3, 0, 0));
 }
 
 /// The differences that the checks of failing reads and writes find in a program with a slip.

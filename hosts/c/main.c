@@ -15,6 +15,9 @@
 
 enum { SIZE = 5, CELLS = SIZE * SIZE * SIZE, JOURNAL = 512, PRESSES = 8 };
 
+/* Where the cells of a visit's two sets are. */
+enum { AT_1_2_3 = 1 + SIZE * (2 + SIZE * 3), AT_4_0_4 = 4 + SIZE * (0 + SIZE * 4) };
+
 /* One tablet: what the host keeps, and lends to each call. */
 typedef struct tablet {
     pl_session session;
@@ -52,6 +55,24 @@ static uint32_t nonzero(const uint16_t *cells, size_t n) {
     for (size_t i = 0; i < n; i++)
         count += cells[i] != 0;
     return count;
+}
+
+/* How many of n cells hold another id in b than in a. */
+static size_t differing(const uint16_t *a, const uint16_t *b, size_t n) {
+    size_t count = 0;
+    for (size_t i = 0; i < n; i++)
+        count += a[i] != b[i];
+    return count;
+}
+
+/* Whether a press was accepted and tells these numbers. */
+static int tells(pl_reply r, size_t written, uint16_t previous, size_t altered) {
+    return r.number == PL_OK && r.line == 0 && r.written == written && r.previous == previous && r.altered == altered;
+}
+
+/* Whether a press was refused with this number, and tells nothing else. */
+static int refused(pl_reply r, uint32_t number) {
+    return r.number == number && r.line == 0 && r.written == 0 && r.previous == 0 && r.altered == 0;
 }
 
 static size_t lines_in(const uint8_t *bytes, size_t n) {
@@ -106,9 +127,10 @@ static void take_over(const storage *file, size_t q, const tablet *maps) {
     CHECK(start.trailing == held - start.session.used);
     CHECK(pl_committed_len(next.journal, JOURNAL, held) == start.session.used);
 
-    /* It goes on from there: an edit and its undo bring the map back. */
-    CHECK(press(&next, 0).number == PL_OK && next.cells[1 + 2 * SIZE + 3 * SIZE * SIZE] == 65535);
-    CHECK(pl_session_undo(&next.session, next.cells, CELLS, next.journal, JOURNAL).number == PL_OK);
+    /* It goes on from there: an edit tells the id that it replaced, and its undo brings the map back. */
+    const uint16_t before = next.cells[AT_1_2_3];
+    CHECK(tells(press(&next, 0), 0, before, before != 65535) && next.cells[AT_1_2_3] == 65535);
+    CHECK(tells(pl_session_undo(&next.session, next.cells, CELLS, next.journal, JOURNAL), 0, 0, before != 65535));
     CHECK(memcmp(next.cells, maps[lines - 1].cells, sizeof next.cells) == 0);
     CHECK(next.session.active == maps[lines - 1].session.active && next.session.count == maps[lines - 1].session.count);
 }
@@ -118,20 +140,20 @@ static void refusals(const tablet *last) {
     tablet t = *last;
     const uint32_t many[68] = {0};
     pl_session *s = &t.session;
-    CHECK(pl_session_set(s, t.cells, CELLS, t.journal, JOURNAL, SIZE, 0, 0, 1).number == PL_OUTSIDE);
-    CHECK(pl_session_set_blocks(s, t.cells, CELLS, t.journal, JOURNAL, many, 68).number == PL_MANY_GROUPS);
-    CHECK(pl_session_set(s, t.cells, CELLS, t.journal, t.session.used, 0, 0, 0, 1).number == PL_FULL);
-    CHECK(pl_session_set(s, t.cells, CELLS - 1, t.journal, JOURNAL, 0, 0, 0, 1).number == PL_RECORD);
-    CHECK(pl_session_set(s, NULL, 0, NULL, 0, 0, 0, 0, 1).number == PL_RECORD);
-    CHECK(pl_session_fill_column(s, t.cells, CELLS, t.journal, JOURNAL, SIZE, 0, 3, 1).number == PL_OK);
+    CHECK(refused(pl_session_set(s, t.cells, CELLS, t.journal, JOURNAL, SIZE, 0, 0, 1), PL_OUTSIDE));
+    CHECK(refused(pl_session_set_blocks(s, t.cells, CELLS, t.journal, JOURNAL, many, 68), PL_MANY_GROUPS));
+    CHECK(refused(pl_session_set(s, t.cells, CELLS, t.journal, t.session.used, 0, 0, 0, 1), PL_FULL));
+    CHECK(refused(pl_session_set(s, t.cells, CELLS - 1, t.journal, JOURNAL, 0, 0, 0, 1), PL_RECORD));
+    CHECK(refused(pl_session_set(s, NULL, 0, NULL, 0, 0, 0, 0, 1), PL_RECORD));
+    CHECK(tells(pl_session_fill_column(s, t.cells, CELLS, t.journal, JOURNAL, SIZE, 0, 3, 1), 0, 0, 0));
     CHECK(same_map(&t, last) && memcmp(t.journal, last->journal, JOURNAL) == 0);
 
     t.journal[0] = 'H';
-    CHECK(pl_session_undo(s, t.cells, CELLS, t.journal, JOURNAL).number == PL_USED_BYTES);
+    CHECK(refused(pl_session_undo(s, t.cells, CELLS, t.journal, JOURNAL), PL_USED_BYTES));
     const pl_start start = pl_session_reopen(t.cells, CELLS, t.journal, JOURNAL, s->used);
     CHECK(start.number == PL_FIRST_LINE && start.line == 1 && start.session.config.chunk_size == 0);
     t.session = start.session;
-    CHECK(pl_session_undo(s, t.cells, CELLS, t.journal, JOURNAL).number == PL_RECORD);
+    CHECK(refused(pl_session_undo(s, t.cells, CELLS, t.journal, JOURNAL), PL_RECORD));
     CHECK(memcmp(t.cells, last->cells, sizeof t.cells) == 0);
 }
 
@@ -177,6 +199,31 @@ static void example(void) {
     CHECK(start.session.count == 7 && start.trailing == 3 && memcmp(cells, wanted, sizeof cells) == 0);
 }
 
+/* What presses tell on eight cells of water (5), worked out by hand. */
+static void worked_out(void) {
+    /* (1, 1, 1) is set and set back; (0, 0, 1) is set twice, from 5 to 7 in the end; (0, 0, 0) has its 9 already;
+     * (2, 0, 0) lies outside. Five groups are written, and one cell is altered. */
+    static const uint32_t groups[] = {1, 1, 1, 8, 1, 1, 1, 5, 0, 0, 1, 8, 0, 0, 1, 7, 0, 0, 0, 9, 2, 0, 0, 1};
+    const pl_config config = {0, 4096, 256, 2};
+    const pl_pos pos = {0, 128, 0};
+    uint16_t cells[8];
+    uint8_t j[JOURNAL];
+    const pl_start start = pl_session_fresh(config, pos, cells, 8, j, JOURNAL);
+    CHECK(start.number == PL_OK && start.session.count == 8 && cells[0] == 5 && cells[7] == 5);
+    pl_session s = start.session;
+    CHECK(tells(pl_session_set(&s, cells, 8, j, JOURNAL, 0, 0, 0, 9), 0, 5, 1));
+    CHECK(tells(pl_session_set(&s, cells, 8, j, JOURNAL, 0, 0, 0, 9), 0, 9, 0));
+    /* The column's two cells hold 9 and 5. */
+    CHECK(tells(pl_session_fill_column(&s, cells, 8, j, JOURNAL, 0, 0, 7, 9), 0, 0, 1));
+    CHECK(tells(pl_session_set_blocks(&s, cells, 8, j, JOURNAL, groups, 24), 5, 0, 1));
+    /* Back from 7 to 5, from 9 to 5, none (9 was set on 9), from 9 to 5. */
+    CHECK(tells(pl_session_undo(&s, cells, 8, j, JOURNAL), 0, 0, 1));
+    CHECK(tells(pl_session_undo(&s, cells, 8, j, JOURNAL), 0, 0, 1));
+    CHECK(tells(pl_session_undo(&s, cells, 8, j, JOURNAL), 0, 0, 0));
+    CHECK(tells(pl_session_undo(&s, cells, 8, j, JOURNAL), 0, 0, 1));
+    CHECK(refused(pl_session_undo(&s, cells, 8, j, JOURNAL), PL_NOTHING_ACTIVE));
+}
+
 int main(void) {
     static tablet maps[PRESSES + 1]; /* the map after each line */
     static storage file;
@@ -192,8 +239,10 @@ int main(void) {
     maps[0] = t;
 
     for (int k = 0; k < PRESSES; k++) {
+        const uint16_t *before = maps[k].cells;
+        const uint16_t replaced = k == 0 ? before[AT_1_2_3] : k == 4 ? before[AT_4_0_4] : 0;
         const pl_reply r = press(&t, k);
-        CHECK(r.number == PL_OK && r.line == 0 && r.written == (k == 2 ? 2u : 0u));
+        CHECK(tells(r, k == 2 ? 2 : 0, replaced, differing(before, t.cells, CELLS)));
         CHECK(t.session.count == nonzero(t.cells, CELLS));
         store(&file, &t);
         maps[k + 1] = t;
@@ -205,6 +254,7 @@ int main(void) {
     refusals(&t);
     bare(&t);
     example();
+    worked_out();
     printf("host in %s: %zu bytes, a cut at each, the map is there\n",
 #ifdef __cplusplus
            "C++",

@@ -223,50 +223,74 @@ fn workloads<'a>(
     all
 }
 
+/// The k-th call of a row.
+type Press = Box<dyn Fn(usize) -> f64>;
+
+/// Two calls in turns, each from the same record. After one of them the other alters so many cells.
+fn in_turns(start: &Lent, calls: [Call; 2], altered: usize) -> Press {
+    let lent = RefCell::new(start.clone());
+    let press = move |k: usize| {
+        let mut lent = lent.borrow_mut();
+        let before = lent.record;
+        let reply = Product.call(&mut lent, &calls[k % 2]);
+        assert_eq!(reply.number, 0, "a call with room for its line");
+        lent.record = before;
+        reply.altered as f64
+    };
+    let told = [0, 1, 2, 3].map(&press);
+    assert_eq!(told[1..], [altered as f64; 3], "what each call alters");
+    Box::new(press)
+}
+
+/// Set, column and batch in turns with another id, so that each alters every cell that it names: with one id alone the
+/// second press would find its own cells. The ids of a pair have equally many digits.
+fn edits(start: &Lent) -> [Press; 3] {
+    let column = |id| Call::Column {
+        x: 3,
+        z: 5,
+        height: 64,
+        id,
+    };
+    let mut others = stack::groups();
+    let ids = others.iter_mut().skip(3).step_by(4);
+    ids.for_each(|id| *id = if *id < 10 { *id % 9 + 1 } else { *id + 10 });
+    let batches = [Call::Batch(stack::groups()), Call::Batch(others)];
+    let sets = [4, 5].map(|id| Call::Set([1, 2, 3], id));
+    [
+        in_turns(start, sets, 1),
+        in_turns(start, [column(4), column(5)], 64),
+        in_turns(start, batches, 16),
+    ]
+}
+
 /// Calls of a session at its limits, at size 64: the Rust has none, so the other side is one
 /// generation of the chunk by the product. A call is made again and again from the same record.
 fn presses<'a>() -> Vec<Workload<'a>> {
     let site = stack::site();
     let start = stack::long_session(&Product, site);
-    let row = |name: &str, times: usize, run: Box<dyn Fn() -> f64>| Workload {
+    let row = |name: &str, times: usize, press: Press| Workload {
         name: name.into(),
         times,
-        product: Box::new(move || (0..times).map(|_| run()).sum()),
+        product: Box::new(move || (0..times).map(&press).sum()),
         baseline: Box::new(move || one_generation(site)),
         native: None,
     };
-    let press_from = |start: &Lent, call: Call| {
-        let lent = RefCell::new(start.clone());
-        Box::new(move || {
-            let mut lent = lent.borrow_mut();
-            let before = lent.record;
-            let answer = Product
-                .call(&mut lent, &call)
-                .expect("an edit with room for its line");
-            lent.record = before;
-            answer as f64
-        })
-    };
-    let press = |call: Call| press_from(&start, call);
+    let [set, column, batch] = edits(&start);
+    // An undo lays the same map each time, and from the second on finds it there.
+    let undo = |start: &Lent| in_turns(start, [Call::Undo, Call::Undo], 0);
     let batches = stack::batches_session(&Product, site);
-    let column = Call::Column {
-        x: 3,
-        z: 5,
-        height: 64,
-        id: 4,
-    };
     let opened = start.clone();
     let cells = RefCell::new(start.cells.clone());
     vec![
-        row("session set", 1000, press(Call::Set([1, 2, 3], 4))),
-        row("session column of 64", 1000, press(column)),
-        row("session batch of 16", 1000, press(Call::Batch(stack::groups()))),
-        row("undo, 255 active sets", 1, press(Call::Undo)),
-        row("undo, 255 active batches", 1, press_from(&batches, Call::Undo)),
+        row("session set", 1000, set),
+        row("session column of 64", 1000, column),
+        row("session batch of 16", 1000, batch),
+        row("undo, 255 active sets", 1, undo(&start)),
+        row("undo, 255 active batches", 1, undo(&batches)),
         row(
             "reopening of 32 KiB",
             1,
-            Box::new(move || {
+            Box::new(move |_| {
                 let answer = Product.reopen(&opened.journal, opened.record.used, &mut cells.borrow_mut());
                 answer.expect("a journal as it was written").1 as f64
             }),

@@ -69,7 +69,7 @@ unfolding layColumn
 lay-more s x z h id c = steps-more h (λ (y : ℕ). λ (d : List ℕ). putAt s x y z id d) c
 
 -- a cell above what is laid is as it was
-lay-above : (s x z h id y : ℕ) (c : List ℕ) → h ≤ y → Inside s x y z → seeAt s x y z (layColumn s x z h id c) ≡ seeAt s x y z c
+pub lay-above : (s x z h id y : ℕ) (c : List ℕ) → h ≤ y → Inside s x y z → seeAt s x y z (layColumn s x z h id c) ≡ seeAt s x y z c
 unfolding layColumn steps
 lay-above s x z zero id y c l i = refl
 lay-above s x z (suc h) id y c l i =

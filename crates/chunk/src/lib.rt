@@ -3,10 +3,11 @@
 ghost use mathlib.Core.Path.{_≡_};
 ghost use Prim.Native.Nat.{_≤_};
 ghost use Rattle.grid.specs.Cube.{Cube};
-ghost use Rattle.grid.specs.Count.{nonAir};
+ghost use Rattle.grid.specs.Differing.{differing};
 ghost use Rattle.grid_edits.specs.Edits.{clippedHeight, layColumn};
 ghost use Rattle.chunk.specs.Tests.{chunkRefusal, cellRefusal, countRefusal};
 ghost use Rattle.chunk.specs.Moves.{columnCount};
+ghost use Rattle.chunk.specs.Altered.{Tower};
 use config::bounds::SIZE_MOST;
 use config::refusals::LENGTH;
 use config::refusals::OK;
@@ -62,16 +63,6 @@ pub fn refuse_cell(size: usize, n: usize, x: usize, y: usize, z: usize) -> u32
     OK
 }
 
-// 1 for a block, 0 for air.
-pub fn non_air(id: u16) -> u32
-    ensures { λ r. ⌜ r ≡ nonAir id ⌝ }
-{
-    if id == 0 {
-        return 0;
-    }
-    1
-}
-
 // Refusal 21 of a count that an edit moves by after - before, or 0.
 pub fn refuse_count(size: usize, count: u32, before: u32, after: u32) -> u32
     requires { ⌜ (size ≤ 64) × (after ≤ 262144) ⌝ }
@@ -116,7 +107,22 @@ pub fn column_count(cells: &[u16], size: usize, x: usize, z: usize, h: usize) ->
     let mut y = 0;
     while y < h {
         let v = grid::see(cells, size, x, y, z);
-        n += non_air(v);
+        n += grid::non_air(v);
+        y += 1;
+    }
+    n
+}
+
+// How many of the lowest h cells of a column hold another id than the one that is put there.
+pub fn column_altered(cells: &[u16], size: usize, x: usize, z: usize, h: usize, id: u16) -> usize
+    requires { ⌜ Tower size x z h (now cells) ⌝ }
+    ensures { λ r. ⌜ r ≡ differing (now (cells .entry)) (layColumn size x z h id (now (cells .entry))) ⌝ }
+{
+    let mut n: usize = 0;
+    let mut y = 0;
+    while y < h {
+        let v = grid::see(cells, size, x, y, z);
+        n += grid::apart(v, id);
         y += 1;
     }
     n

@@ -65,8 +65,8 @@ pub fn set(
         return Counted::Refused(k);
     }
     let i = grid::cell_index(size, x, y, z);
-    let before = chunk::non_air(cells[i]);
-    let after = chunk::non_air(id);
+    let before = grid::non_air(cells[i]);
+    let after = grid::non_air(id);
     let m = chunk::refuse_count(size, count, before, after);
     if m != OK {
         return Counted::Refused(m);
@@ -93,7 +93,7 @@ pub fn fill_column(
     }
     let h = chunk::column_height(size, x, z, height);
     let before = chunk::column_count(cells, size, x, z, h);
-    let after = h as u32 * chunk::non_air(id);
+    let after = h as u32 * grid::non_air(id);
     let m = chunk::refuse_count(size, count, before, after);
     if m != OK {
         return Counted::Refused(m);

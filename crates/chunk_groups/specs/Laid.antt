@@ -66,6 +66,15 @@ pub put-outside : (size : ℕ) (g : Group) (c : List ℕ) → groupInside size g
 unfolding putAt
 put-outside size g c e = rw (outside-false size g e)
 
+-- group k laid on, by itself: one in the chunk, and one outside
+pub laid-group : (size : ℕ) (ns : List ℕ) (k : ℕ) (c : List ℕ) (g : Group) → g ≡ groupOf ns (4 * k)
+    → putGroup size g (laid size ns k c) ≡ laid size ns (k + 1) c
+laid-group size ns k c g e = ap (λ (a : Group). putGroup size a (laid size ns k c)) e ∙ laid-more size ns k c
+
+pub laid-outside : (size : ℕ) (ns : List ℕ) (k : ℕ) (c : List ℕ) (g : Group) → g ≡ groupOf ns (4 * k) → groupInside size g ≡ false
+    → laid size ns k c ≡ laid size ns (k + 1) c
+laid-outside size ns k c g e i = sym (put-outside size g (laid size ns k c) i) ∙ laid-group size ns k c g e
+
 inside-same : (size : ℕ) (gs : List Group) (c : List ℕ) → batchCells size gs c ≡ batchCells size (insideGroups size gs) c
 unfolding batchCells insideGroups
 inside-same size [] c = refl

@@ -1,5 +1,5 @@
 -- By how much an edit moves the non-air count (SCOPE 5.10). Assumes nothing.
-use mathlib.Core.Path.{_≡_, sym, ap, _∙_}
+use mathlib.Core.Path.{_≡_, ap}
 use mathlib.Core.Bool.{true, false}
 use mathlib.Core.List.{List}
 use Prim.Native.Nat.{ℕ, _+_, _*_, _/_, _≤_}
@@ -8,9 +8,9 @@ use lib.ListN.{length}
 use Rattle.grid.specs.Cube.{Cube, seeAt}
 use Rattle.grid.specs.Count.{nonAir, nonAirCount, non-air-most}
 use Rattle.chunk.specs.Moves.{put-count}
-use Rattle.grid_edits.specs.Edits.{Group, groupInside, putGroup, batchGroups, insideGroups, batchCells}
+use Rattle.grid_edits.specs.Edits.{Group, groupInside, batchGroups, insideGroups, batchCells}
 use Rattle.journal_write.specs.Groups.{groupOf}
-use Rattle.chunk_groups.specs.Laid.{laid, laid-none, laid-more, laid-cube, laid-all, group-inside, put-outside}
+use Rattle.chunk_groups.specs.Laid.{laid, laid-none, laid-group, laid-outside, laid-cube, laid-all, group-inside}
 use Rattle.chunk_groups.specs.declared.Change.{Change}
 
 -- from cells c to cells d the nonzero ones go as from before to after, both at most m
@@ -26,8 +26,7 @@ change before after = record { before = before; after = after }
 pub net-outside : (size : ℕ) (ns : List ℕ) (k : ℕ) (c : List ℕ) (g : Group) → g ≡ groupOf ns (4 * k) → groupInside size g ≡ false
     → Net (laid size ns k c) (laid size ns (k + 1) c) 1 (change 0 0)
 net-outside size ns k c g e i =
-    let f =
-    ap nonAirCount (sym (laid-more size ns k c) ∙ sym (ap (λ (a : Group). putGroup size a (laid size ns k c)) e) ∙ put-outside size g (laid size ns k c) i) in
+    let f = ap nonAirCount (laid-outside size ns k c g e i) in
     record { moves = omega arith; most-before = omega arith; most-after = omega arith }
 
 -- a group in the chunk takes its cell from what it holds to the group's id
@@ -36,7 +35,7 @@ pub net-inside : (size : ℕ) (ns : List ℕ) (k : ℕ) (c : List ℕ) (g : Grou
     → Net (laid size ns k c) (laid size ns (k + 1) c) 1 r
 net-inside size ns k c g r e i h p q =
     let d : List ℕ = laid size ns k c in
-    let f = ap nonAirCount (ap (λ (a : Group). putGroup size a d) e ∙ laid-more size ns k c) in
+    let f = ap nonAirCount (laid-group size ns k c g e) in
     let m = put-count size (g .x) (g .y) (g .z) (g .id) d (laid-cube size ns k c h .all) (group-inside size g i) in
     let a = non-air-most (seeAt size (g .x) (g .y) (g .z) d) in
     let b = non-air-most (g .id) in

@@ -3,6 +3,7 @@ ghost use mathlib.Core.Path.{_≡_};
 ghost use Prim.Native.Nat.{_+_, _*_, _/_, _%_, _≤_};
 ghost use lib.ListN.{length};
 ghost use Rattle.grid.specs.Cube.{Cube, seeAt};
+ghost use Rattle.grid.specs.Differing.{differing};
 ghost use Rattle.chunk.specs.Tests.{Inside};
 ghost use Rattle.grid_edits.specs.Edits.{group, groupInside, insideGroups, batchGroups, batchCells};
 ghost use Rattle.journal_write.specs.Groups.{groupOf};
@@ -104,8 +105,8 @@ fn group_change(cells: &[u16], size: usize, edits: &[u32], k: usize) -> Change
     }
     let old = id_after(cells, size, edits, k, g.x, g.y, g.z);
     Change {
-        before: chunk::non_air(old) as usize,
-        after: chunk::non_air(g.id) as usize,
+        before: grid::non_air(old) as usize,
+        after: grid::non_air(g.id) as usize,
     }
 }
 
@@ -126,6 +127,36 @@ pub fn batch_change(cells: &[u16], size: usize, edits: &[u32]) -> Change
         k += 1;
     }
     Change { before, after }
+}
+
+// How many cells hold another id with the first k + 1 groups laid on than in `cells`, where it is `altered` with the first k.
+fn group_altered(cells: &[u16], size: usize, edits: &[u32], k: usize, altered: usize) -> usize
+    requires { ⌜ Cube size (now cells) × (4 * k + 4 ≤ length (now edits)) × (altered ≡ differing (now cells) (laid size (now edits) k (now cells))) ⌝ }
+    ensures { λ r. ⌜ r ≡ differing (now (cells .entry)) (laid size (now (edits .entry)) (k + 1) (now (cells .entry))) ⌝ }
+{
+    let g = group_at(edits, k);
+    if !is_inside(size, g) {
+        return altered;
+    }
+    let held = grid::see(cells, size, g.x, g.y, g.z);
+    let latest = id_after(cells, size, edits, k, g.x, g.y, g.z);
+    altered + grid::apart(held, g.id) - grid::apart(held, latest)
+}
+
+// How many cells hold another id after the whole batch, found before a cell is written: a cell set and set back counts for nothing.
+pub fn batch_altered(cells: &[u16], size: usize, edits: &[u32]) -> usize
+    requires { ⌜ Cube size (now cells) ⌝ }
+    ensures { λ r. ⌜ r ≡ differing (now (cells .entry))
+        (batchCells size (insideGroups size (batchGroups (now (edits .entry)))) (now (cells .entry))) ⌝ }
+{
+    let n = edits.len() / 4;
+    let mut altered: usize = 0;
+    let mut k = 0;
+    while k < n {
+        altered = group_altered(cells, size, edits, k, altered);
+        k += 1;
+    }
+    altered
 }
 
 // Lays the groups on in their order; those outside change nothing.

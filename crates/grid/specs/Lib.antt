@@ -1,3 +1,4 @@
 pub mod Cube
 pub mod Grid
 pub mod Count
+pub mod Differing

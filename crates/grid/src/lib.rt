@@ -2,7 +2,8 @@
 ghost use mathlib.Core.Path.{_≡_};
 ghost use Prim.Native.Nat.{_≤_, _<_};
 ghost use Rattle.grid.specs.Cube.{Cube, cellIndex, inside, putAt, seeAt};
-ghost use Rattle.grid.specs.Count.{nonAirCount};
+ghost use Rattle.grid.specs.Count.{nonAir, nonAirCount};
+ghost use Rattle.grid.specs.Differing.{apart};
 
 // Where cell (x, y, z) stands in the slice.
 pub fn cell_index(size: usize, x: usize, y: usize, z: usize) -> usize
@@ -59,6 +60,26 @@ pub fn see(cells: &[u16], size: usize, x: usize, y: usize, z: usize) -> u16
     }
     let i = cell_index(size, x, y, z);
     cells[i]
+}
+
+// 1 for a block, 0 for air.
+pub fn non_air(id: u16) -> u32
+    ensures { λ r. ⌜ r ≡ nonAir id ⌝ }
+{
+    if id == 0 {
+        return 0;
+    }
+    1
+}
+
+// 1 where two ids differ, else 0.
+pub fn apart(a: u16, b: u16) -> usize
+    ensures { λ r. ⌜ r ≡ apart a b ⌝ }
+{
+    if a != b {
+        return 1;
+    }
+    0
 }
 
 // How many cells are not air.

@@ -1,6 +1,5 @@
 pub mod Rows
 pub mod Clip
 pub mod Filled
-pub mod Differing
 pub mod Parts
 pub mod Runs

@@ -7,7 +7,7 @@ use mathlib.Core.List.{List, [], _∷_, _++_}
 use lib.ListN.{length, getD, take, drop, set, length-take, length-drop}
 use lib.Seq.{take-suc, take-suc-set, getD-drop}
 use Rattle.grid.specs.Count.{nonAir, nonAirCount, count-append, count-none, count-one}
-use Rattle.grid_slabs.specs.Differing.{apart, differing, differing-append}
+use Rattle.grid.specs.Differing.{apart, differing, differing-append}
 
 -- one cell more
 pub take-more : (l : List ℕ) (i : ℕ) → i < length l → take (i + 1) l ≡ take i l ++ (getD l i 0 ∷ [])

@@ -3,9 +3,9 @@ ghost use mathlib.Core.Path.{_≡_};
 ghost use Prim.Native.Nat.{_+_, _*_, _≤_, _<_};
 ghost use lib.ListN.{length, take, drop};
 ghost use Rattle.grid.specs.Cube.{Cube, allOf};
-ghost use Rattle.grid.specs.Count.{nonAir, nonAirCount};
+ghost use Rattle.grid.specs.Count.{nonAirCount};
 ghost use Rattle.grid_slabs.specs.Clip.{Clip};
-ghost use Rattle.grid_slabs.specs.Differing.{apart, differing};
+ghost use Rattle.grid.specs.Differing.{differing};
 ghost use Rattle.grid_slabs.specs.Rows.{inRows};
 
 // How many cells of a run hold another id than before, and how many are not air.
@@ -19,26 +19,6 @@ pub fn in_rows(lo: usize, hi: usize, z: usize) -> bool
     ensures { λ r. ⌜ r ≡ inRows lo hi z ⌝ }
 {
     (lo <= z) & (z < hi)
-}
-
-// 1 where two ids differ, else 0.
-fn one_apart(a: u16, b: u16) -> usize
-    ensures { λ r. ⌜ (r ≡ apart a b) × (r ≤ 1) ⌝ }
-{
-    if a != b {
-        return 1;
-    }
-    0
-}
-
-// 1 for a block, 0 for air.
-fn one_block(v: u16) -> usize
-    ensures { λ r. ⌜ (r ≡ nonAir v) × (r ≤ 1) ⌝ }
-{
-    if v == 0 {
-        return 0;
-    }
-    1
 }
 
 // Keeps the n cells from start on.
@@ -78,8 +58,8 @@ pub fn compare_slab(old: &[u16], cells: &[u16], start: usize, n: usize) -> SlabC
     let mut i = 0;
     while i < n {
         let v = cells[start + i];
-        altered += one_apart(old[i], v);
-        count += one_block(v);
+        altered += grid::apart(old[i], v);
+        count += grid::non_air(v) as usize;
         i += 1;
     }
     SlabChange { altered, count }

@@ -68,7 +68,8 @@ module _ (f : First) {calls : List Call} {rs : List Reply} {t : Tablet} (made : 
     pub last : AsModel (modelRun (model f) calls) t
     -- its cells are the ground with its active edits laid on in order
     pub laid : (n : ℕ) → Laid (after n made)
-    -- every answer is the model's: refused exactly where the model refuses, with the same number
+    -- every answer is the model's, whole: refused exactly where the model refuses, with the same number; else with the same groups written, the same
+    -- id that was there before, and as many cells altered (SCOPE 7.8). The model tells these of its own cells (`takeover_model/specs/Told`).
     pub answers : rs ≡ modelReplies (model f) calls
     -- every cut: whatever byte it comes at, whatever is confirmed, whatever the second's buffers had in them
     pub cut : (confirmed q : ℕ) (tail : List ℕ) (o : Second) → CutAt t confirmed q tail (now (o .cells)) (now (o .journal)) (o .held)

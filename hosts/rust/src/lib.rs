@@ -1,6 +1,7 @@
-//! Perillahinge for Rust hosts: slices in, an enum out. All `unsafe` of a host is here. It is sound because every
-//! call returns for every input and touches only what it is lent, and because a Rust slice is what the C interface
-//! asks for: aligned, of its length, and where it is `&mut` not shared. include/perillahinge.h documents the calls.
+//! Perillahinge for Rust hosts: slices in, a `Result` out, whose error is an enum. All `unsafe` of a host is here. It
+//! is sound because every call returns for every input and touches only what it is lent, and because a Rust slice is
+//! what the C interface asks for: aligned, of its length, and where it is `&mut` not shared. include/perillahinge.h
+//! documents the calls.
 #![deny(missing_docs)]
 
 pub mod raw;
@@ -83,6 +84,16 @@ pub struct Reopened {
     pub trailing: usize,
 }
 
+/// What an accepted batch of a session tells.
+#[derive(Clone, Copy, Debug, PartialEq, Eq)]
+pub struct Batch {
+    /// How many groups were inside and are written.
+    pub written: usize,
+    /// How many cells hold another id than before: one that is set and set back does not, one that is set twice counts
+    /// once.
+    pub altered: usize,
+}
+
 fn started(start: raw::Start) -> Result<Reopened, Refusal> {
     refusal(start.number, start.line)?;
     Ok(Reopened {
@@ -92,9 +103,8 @@ fn started(start: raw::Start) -> Result<Reopened, Refusal> {
     })
 }
 
-fn replied(reply: raw::Reply) -> Result<usize, Refusal> {
-    refusal(reply.number, reply.line)?;
-    Ok(reply.written)
+fn replied(reply: raw::Reply) -> Result<raw::Reply, Refusal> {
+    refusal(reply.number, reply.line).map(|()| reply)
 }
 
 fn answered(answer: raw::Answer) -> Result<usize, Refusal> {
@@ -126,19 +136,20 @@ fn lent(cells: &mut [u16], journal: &mut [u8]) -> (*mut u16, usize, *mut u8, usi
 }
 
 impl Session {
-    /// Sets one cell.
+    /// Sets one cell, and tells the id that it held before. Where that is another than `id`, the cell was altered.
     pub fn set(
         &mut self,
         cells: &mut [u16],
         journal: &mut [u8],
         [x, y, z]: [usize; 3],
         id: u16,
-    ) -> Result<(), Refusal> {
+    ) -> Result<u16, Refusal> {
         let (c, n, j, m) = lent(cells, journal);
-        replied(unsafe { raw::pl_session_set(self, c, n, j, m, x, y, z, id) }).map(|_| ())
+        replied(unsafe { raw::pl_session_set(self, c, n, j, m, x, y, z, id) }).map(|r| r.previous)
     }
 
-    /// Fills a column from y 0 up to a height, which is clipped to the size.
+    /// Fills a column from y 0 up to a height, which is clipped to the size, and tells how many cells hold another id
+    /// than before. With x or z outside it tells 0, and has no line.
     pub fn fill_column(
         &mut self,
         cells: &mut [u16],
@@ -146,26 +157,31 @@ impl Session {
         [x, z]: [usize; 2],
         height: usize,
         id: u16,
-    ) -> Result<(), Refusal> {
+    ) -> Result<usize, Refusal> {
         let (c, n, j, m) = lent(cells, journal);
-        replied(unsafe { raw::pl_session_fill_column(self, c, n, j, m, x, z, height, id) }).map(|_| ())
+        replied(unsafe { raw::pl_session_fill_column(self, c, n, j, m, x, z, height, id) }).map(|r| r.altered)
     }
 
-    /// Sets the cells of groups x, y, z, id, and answers how many were inside.
+    /// Sets the cells of groups x, y, z, id, and tells how many were inside and how many cells they altered. With none
+    /// inside it tells 0 for both, and has no line.
     pub fn set_blocks(
         &mut self,
         cells: &mut [u16],
         journal: &mut [u8],
         edits: &[u32],
-    ) -> Result<usize, Refusal> {
+    ) -> Result<Batch, Refusal> {
         let (c, n, j, m) = lent(cells, journal);
-        replied(unsafe { raw::pl_session_set_blocks(self, c, n, j, m, edits.as_ptr(), edits.len()) })
+        let reply = unsafe { raw::pl_session_set_blocks(self, c, n, j, m, edits.as_ptr(), edits.len()) };
+        replied(reply).map(|r| Batch {
+            written: r.written,
+            altered: r.altered,
+        })
     }
 
-    /// Takes the last active edit back.
-    pub fn undo(&mut self, cells: &mut [u16], journal: &mut [u8]) -> Result<(), Refusal> {
+    /// Takes the last active edit back, and tells how many cells hold another id than before.
+    pub fn undo(&mut self, cells: &mut [u16], journal: &mut [u8]) -> Result<usize, Refusal> {
         let (c, n, j, m) = lent(cells, journal);
-        replied(unsafe { raw::pl_session_undo(self, c, n, j, m) }).map(|_| ())
+        replied(unsafe { raw::pl_session_undo(self, c, n, j, m) }).map(|r| r.altered)
     }
 }
 

@@ -1,6 +1,6 @@
 //! An example host: a fresh map, presses, a cut at every byte, and the next tablet takes over. A wrong answer or
 //! map ends it with a message and exit status 1.
-use perillahinge::{self as map, Config, Face, Pos, Refusal, Session};
+use perillahinge::{self as map, Batch, Config, Face, Pos, Refusal, Session};
 use std::process::ExitCode;
 
 const SIZE: usize = 4;
@@ -21,21 +21,34 @@ impl Tablet {
         (self.session, &self.cells, &self.journal[..self.session.used])
     }
 
-    fn press(&mut self, press: &Press) -> Result<(), Refusal> {
+    fn press(&mut self, press: &Press) -> Answer {
         let Tablet {
             session,
             cells,
             journal,
         } = self;
         match *press {
-            Press::Set(at, id) => session.set(cells, journal, at, id),
-            Press::Column(at, height, id) => session.fill_column(cells, journal, at, height, id),
-            Press::Batch(edits) => session.set_blocks(cells, journal, edits).map(|_| ()),
-            Press::Undo => session.undo(cells, journal),
+            Press::Set(at, id) => session.set(cells, journal, at, id).map(Told::Replaced),
+            Press::Column(at, height, id) => session
+                .fill_column(cells, journal, at, height, id)
+                .map(Told::Altered),
+            Press::Batch(edits) => session.set_blocks(cells, journal, edits).map(Told::Batch),
+            Press::Undo => session.undo(cells, journal).map(Told::Altered),
         }
     }
 }
 
+/// What a press tells: a set the id that it replaced, a column and an undo how many cells they altered.
+#[derive(Clone, Copy, Debug, PartialEq)]
+enum Told {
+    Replaced(u16),
+    Altered(usize),
+    Batch(Batch),
+}
+
+type Answer = Result<Told, Refusal>;
+
+#[derive(Debug)]
 enum Press {
     Set([usize; 3], u16),
     Column([usize; 2], usize, u16),
@@ -62,6 +75,17 @@ fn check(holds: bool, what: &str) -> Result<(), String> {
     }
 }
 
+/// Holds a press, the k-th of a list from 1, to what it must tell.
+fn tells(list: &str, k: usize, press: &Press, answer: Answer, wanted: Answer) -> Result<(), String> {
+    if answer == wanted {
+        Ok(())
+    } else {
+        Err(format!(
+            "{list}, press {k}, {press:?}: told {answer:?}, wanted {wanted:?}"
+        ))
+    }
+}
+
 fn told<T>(answer: Result<T, Refusal>, what: &str) -> Result<T, String> {
     answer.map_err(|r| format!("{what}: refused, {r:?}"))
 }
@@ -70,6 +94,26 @@ fn nonzero(cells: &[u16]) -> u32 {
     cells.iter().filter(|&&id| id != 0).count() as u32
 }
 
+/// How many cells hold another id in b than in a.
+fn differing(a: &[u16], b: &[u16]) -> usize {
+    a.iter().zip(b).filter(|(a, b)| a != b).count()
+}
+
+/// What a press from these cells to those must tell.
+fn wanted(press: &Press, before: &[u16], after: &[u16]) -> Answer {
+    let altered = differing(before, after);
+    Ok(match press {
+        Press::Set([x, y, z], _) => Told::Replaced(before[x + SIZE * (y + SIZE * z)]),
+        Press::Batch(edits) => {
+            let groups = edits.chunks_exact(4);
+            let written = groups.filter(|g| g[..3].iter().all(|&c| c < SIZE as u32)).count();
+            Told::Batch(Batch { written, altered })
+        }
+        Press::Column(..) | Press::Undo => Told::Altered(altered),
+    })
+}
+
+/// A fresh map at the surface.
 fn begin() -> Result<Tablet, String> {
     let config = Config {
         seed: 65535,
@@ -77,8 +121,11 @@ fn begin() -> Result<Tablet, String> {
         world_height_blocks: 48,
         chunk_size: SIZE,
     };
-    let pos = Pos { cx: 5, cy: 6, cz: -7 };
-    let (mut cells, mut journal) = (vec![0; CELLS], vec![0; JOURNAL]);
+    fresh(config, Pos { cx: 5, cy: 6, cz: -7 })
+}
+
+fn fresh(config: Config, pos: Pos) -> Result<Tablet, String> {
+    let (mut cells, mut journal) = (vec![0; config.chunk_size.pow(3)], vec![0; JOURNAL]);
     let session = told(map::fresh(config, pos, &mut cells, &mut journal), "fresh")?;
     check(session.count == nonzero(&cells), "a fresh map is counted")?;
     Ok(Tablet {
@@ -104,7 +151,7 @@ fn take_over(stored: &[u8], q: usize, maps: &[Tablet]) -> Result<(), String> {
     }
     let opened = told(answer, "reopening")?;
     let committed = map::committed(&journal, held).len();
-    let mut next = Tablet {
+    let next = Tablet {
         session: opened.session,
         cells,
         journal,
@@ -116,13 +163,19 @@ fn take_over(stored: &[u8], q: usize, maps: &[Tablet]) -> Result<(), String> {
         "the lines that count",
     )?;
     check(opened.trailing == held - committed, "the bytes that do not")?;
-    told(next.press(&Press::Set([1, 2, 3], 99)), "going on")?;
-    check(
-        next.cells[1 + 2 * SIZE + 3 * SIZE * SIZE] == 99,
-        "a press on the next tablet",
-    )?;
-    told(next.press(&Press::Undo), "its undo")?;
-    check(next.cells == last.cells, "an undo brings the map back")
+    goes_on(next, &last.cells)
+}
+
+/// A press on the next tablet tells the id that it replaced, and its undo brings the map back.
+fn goes_on(mut next: Tablet, last: &[u16]) -> Result<(), String> {
+    let (set, at) = (Press::Set([1, 2, 3], 99), 1 + 2 * SIZE + 3 * SIZE * SIZE);
+    let answer = next.press(&set);
+    tells("going on", 1, &set, answer, Ok(Told::Replaced(last[at])))?;
+    check(next.cells[at] == 99, "a press on the next tablet")?;
+    let answer = next.press(&Press::Undo);
+    let one = usize::from(last[at] != 99);
+    tells("going on", 2, &Press::Undo, answer, Ok(Told::Altered(one)))?;
+    check(next.cells == last, "an undo brings the map back")
 }
 
 fn refusals(last: &Tablet) -> Result<(), String> {
@@ -195,13 +248,62 @@ fn bare(last: &Tablet) -> Result<(), String> {
     check(ground == Ok(nonzero(&cells)), "the ground is counted")
 }
 
+/// What presses tell on eight cells of water (5), worked out by hand.
+const UNDER_THE_SEA: [(Press, Answer); 10] = [
+    (Press::Set([0, 0, 0], 9), Ok(Told::Replaced(5))),
+    (Press::Set([0, 0, 0], 9), Ok(Told::Replaced(9))),
+    // The column's two cells hold 9 and 5.
+    (Press::Column([0, 0], 7, 9), Ok(Told::Altered(1))),
+    // (1, 1, 1) is set and set back, (0, 0, 1) is set twice, (2, 0, 0) lies outside.
+    (
+        Press::Batch(&[1, 1, 1, 8, 1, 1, 1, 5, 0, 0, 1, 8, 0, 0, 1, 7, 2, 0, 0, 1]),
+        Ok(Told::Batch(Batch {
+            written: 4,
+            altered: 1,
+        })),
+    ),
+    (Press::Undo, Ok(Told::Altered(1))),
+    (Press::Undo, Ok(Told::Altered(1))),
+    // The second set put 9 on 9.
+    (Press::Undo, Ok(Told::Altered(0))),
+    (Press::Undo, Ok(Told::Altered(1))),
+    (Press::Undo, Err(Refusal::NothingActive)),
+    // Outside: accepted, without a line.
+    (Press::Column([2, 0], 1, 9), Ok(Told::Altered(0))),
+];
+
+fn worked_out() -> Result<(), String> {
+    let config = Config {
+        seed: 0,
+        sea_level: 4096,
+        world_height_blocks: 256,
+        chunk_size: 2,
+    };
+    let (cx, cy, cz) = (0, 128, 0);
+    let mut tablet = fresh(config, Pos { cx, cy, cz })?;
+    check(tablet.cells == [5; 8], "a chunk under the sea")?;
+    for (k, (press, wanted)) in (1..).zip(&UNDER_THE_SEA) {
+        let answer = tablet.press(press);
+        tells("under the sea", k, press, answer, *wanted)?;
+    }
+    check(tablet.cells == [5; 8], "all taken back")
+}
+
 fn run() -> Result<usize, String> {
     let mut tablet = begin()?;
     let mut maps = vec![tablet.clone()];
     // Stored for certain: a file would be written and synced after each press.
     let mut stored = tablet.journal[..tablet.session.used].to_vec();
-    for press in &VISIT {
-        told(tablet.press(press), "a press")?;
+    for (k, press) in (1..).zip(&VISIT) {
+        let answer = tablet.press(press);
+        let before = &maps[maps.len() - 1].cells;
+        tells(
+            "the visit",
+            k,
+            press,
+            answer,
+            wanted(press, before, &tablet.cells),
+        )?;
         stored.extend_from_slice(&tablet.journal[stored.len()..tablet.session.used]);
         check(tablet.session.count == nonzero(&tablet.cells), "the count")?;
         maps.push(tablet.clone());
@@ -216,6 +318,7 @@ fn run() -> Result<usize, String> {
     }
     refusals(&maps[VISIT.len()])?;
     bare(&maps[VISIT.len()])?;
+    worked_out()?;
     Ok(stored.len())
 }
 

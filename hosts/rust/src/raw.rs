@@ -42,6 +42,8 @@ pub struct Reply {
     pub number: u32,
     pub line: usize,
     pub written: usize,
+    pub previous: u16,
+    pub altered: usize,
 }
 
 /// The answer of a call on bare cells.
@@ -79,7 +81,8 @@ const _: () = {
     assert!(size_of::<Config>() == 24 && offset_of!(Config, chunk_size) == 16);
     assert!(size_of::<Session>() == 56 && offset_of!(Session, pos) == 24);
     assert!(offset_of!(Session, count) == 36 && offset_of!(Session, used) == 40);
-    assert!(size_of::<Reply>() == 24 && offset_of!(Reply, line) == 8);
+    assert!(size_of::<Reply>() == 40 && offset_of!(Reply, line) == 8);
+    assert!(offset_of!(Reply, previous) == 24 && offset_of!(Reply, altered) == 32);
     assert!(size_of::<Answer>() == 24 && offset_of!(Answer, line) == 8);
     assert!(size_of::<BatchAnswer>() == 32 && offset_of!(BatchAnswer, count) == 24);
     assert!(size_of::<Start>() == 88 && offset_of!(Start, number) == 56);

@@ -2,16 +2,18 @@
 use mathlib.Core.Path.{_≡_, ap, ap₂, _∙_}
 use Prim.Native.Nat.{ℕ, _+_, _-_, _≤_, _<_}
 use native.Mathlib.Omega.{arith}
-use lib.ListN.{length, take, drop}
+use mathlib.Core.List.{List}
+use lib.ListN.{length, getD, take, drop}
 use borrow.Author.Needs.{needs}
-use Rattle.grid.specs.Count.{nonAirCount}
-use Rattle.grid_slabs.specs.Differing.{differing}
+use Rattle.grid.specs.Count.{nonAirCount, non-air-most}
+use Rattle.grid.specs.Differing.{differing, apart-most}
 use Rattle.grid_slabs.specs.Runs.{apart-none, blocks-none, apart-more, blocks-more}
 use Rattle.grid_slabs.proofs.compare_slab.Statement.{statement}
 use Rattle.grid_slabs.proofs.compare_slab.Tie as tie
 
 abbrev Inv-loop : tie.InvT-loop
-Inv-loop old cells start n altered₀ count₀ i₀ altered count i = (i ≤ n) × (altered ≤ i) × (count ≤ i) × (altered ≡ differing (take i old) (take i (drop start cells))) × (count ≡ nonAirCount (take i (drop start cells)))
+Inv-loop old cells start n altered₀ count₀ i₀ altered count i =
+    (i ≤ n) × (altered ≤ i) × (count ≤ i) × (altered ≡ differing (take i old) (take i (drop start cells))) × (count ≡ nonAirCount (take i (drop start cells)))
 
 abbrev μ-loop : tie.MeasureT-loop
 μ-loop old cells start n altered₀ count₀ i₀ altered count i = n - i
@@ -30,23 +32,38 @@ mul-v c = omega arith
 shared-slice-read-v : tie.Need-shared-slice-read-v Inv-loop μ-loop
 shared-slice-read-v c = omega arith
 
-mul-one-apart : tie.Need-mul-one-apart Inv-loop μ-loop
-mul-one-apart c = omega arith
+mul-apart : tie.Need-mul-apart Inv-loop μ-loop
+mul-apart c = omega arith
 
-shared-slice-read-one-apart : tie.Need-shared-slice-read-one-apart Inv-loop μ-loop
-shared-slice-read-one-apart c = omega arith
+shared-slice-read-apart : tie.Need-shared-slice-read-apart Inv-loop μ-loop
+shared-slice-read-apart c = omega arith
 
-one-apart-requires : tie.Need-one-apart-requires Inv-loop μ-loop
-one-apart-requires c κs = search needs
+apart-requires : tie.Need-apart-requires Inv-loop μ-loop
+apart-requires c κs = search needs
 
 add-altered : tie.Need-add-altered Inv-loop μ-loop
-add-altered c = let h = c .one-apart .ensures .1 in omega arith
+add-altered c =
+    let a = c .before .before .before .before .before .before .before .args in
+    let l = c .before .before .before .before .loop in
+    let h = apart-most (getD (a .old .now) (l .i) 0) (getD (a .cells .now) (a .start + l .i) 0) in
+    omega (arith, c .apart .ensures)
 
-one-block-requires : tie.Need-one-block-requires Inv-loop μ-loop
-one-block-requires c κs = search needs
+non-air-requires : tie.Need-non-air-requires Inv-loop μ-loop
+non-air-requires c κs = search needs
+
+cast-count : tie.Need-cast-count Inv-loop μ-loop
+cast-count c =
+    let a = c .before .before .before .before .before .before .before .before .args in
+    let l = c .before .before .before .before .before .loop in
+    let h = non-air-most (getD (a .cells .now) (a .start + l .i) 0) in
+    omega (arith, c .non-air .ensures)
 
 add-count : tie.Need-add-count Inv-loop μ-loop
-add-count c = let h = c .one-block .ensures .1 in omega arith
+add-count c =
+    let a = c .before .before .before .before .before .before .before .before .args in
+    let l = c .before .before .before .before .before .loop in
+    let h = non-air-most (getD (a .cells .now) (a .start + l .i) 0) in
+    omega (arith, c .non-air .ensures)
 
 add-i : tie.Need-add-i Inv-loop μ-loop
 add-i c = omega arith
@@ -62,15 +79,17 @@ loop-again c =
     let t : l .i < a .n = c .before .before .before .before .loop-test .taken in
     let h : a .start + l .i < length (a .cells .now) = (let p = s .pre .0 in omega arith) in
     let k : l .i < length (a .old .now) = (let p = s .pre .1 in omega arith) in
-    let x = c .before .one-apart .ensures in
-    let y = c .one-block .ensures in
+    let x = c .before .apart .ensures in
+    let y = c .non-air .ensures in
+    let p = apart-most (getD (a .old .now) (l .i) 0) (getD (a .cells .now) (a .start + l .i) 0) in
+    let q = non-air-most (getD (a .cells .now) (a .start + l .i) 0) in
     let m = l .inv .1 in
     let n = l .inv .2 in (
       omega arith,
       omega arith,
       omega arith,
-      ap₂ (λ (u v : ℕ). u + v) (l .inv .3) (x .0) ∙ apart-more (a .old .now) (a .cells .now) (a .start) (l .i) h k,
-      ap₂ (λ (u v : ℕ). u + v) (l .inv .4) (y .0) ∙ blocks-more (a .cells .now) (a .start) (l .i) h,
+      ap₂ (λ (u v : ℕ). u + v) (l .inv .3) x ∙ apart-more (a .old .now) (a .cells .now) (a .start) (l .i) h k,
+      ap₂ (λ (u v : ℕ). u + v) (l .inv .4) y ∙ blocks-more (a .cells .now) (a .start) (l .i) h,
     )
 
 returns : tie.Need-returns Inv-loop μ-loop
@@ -78,7 +97,8 @@ returns c =
     let a = c .before .before .before .before .args in
     let l = c .before .loop in
     let e : l .i ≡ a .n = (let h = l .inv .0 in let t = c .loop-test .left in omega arith) in
-    (l .inv .3 ∙ ap (λ (n : ℕ). differing (take n (a .old .now)) (take n (drop (a .start) (a .cells .now)))) e, l .inv .4 ∙ ap (λ (n : ℕ). nonAirCount (take n (drop (a .start) (a .cells .now)))) e)
+    let d : List ℕ = drop (a .start) (a .cells .now) in
+    (l .inv .3 ∙ ap (λ (n : ℕ). differing (take n (a .old .now)) (take n d)) e, l .inv .4 ∙ ap (λ (n : ℕ). nonAirCount (take n d)) e)
 
 pub compare-slab-spec : {M : Type 1} → statement M
 compare-slab-spec =
@@ -90,11 +110,12 @@ compare-slab-spec =
     add-v
     mul-v
     shared-slice-read-v
-    mul-one-apart
-    shared-slice-read-one-apart
-    one-apart-requires
+    mul-apart
+    shared-slice-read-apart
+    apart-requires
     add-altered
-    one-block-requires
+    non-air-requires
+    cast-count
     add-count
     add-i
     loop-less

@@ -1,7 +1,7 @@
--- `chunk::non_air` meets its contract. Assumes nothing.
+-- `grid::non_air` meets its contract: the test is the definition. Assumes nothing.
 use borrow.Author.Tests.{eq-eqb, ne-eqb}
-use Rattle.chunk.proofs.non_air.Statement.{statement}
-use Rattle.chunk.proofs.non_air.Tie as tie
+use Rattle.grid.proofs.non_air.Statement.{statement}
+use Rattle.grid.proofs.non_air.Tie as tie
 
 returns : tie.Need-returns
 returns c = simp (eq-eqb _ _ (c .if1 .taken))

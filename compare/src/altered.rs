@@ -1,0 +1,135 @@
+//! What a session's calls tell of the cells: the id that a set replaced, and how many cells hold another id than
+//! before. Here the lent cells need not be the journal's, and batches come back to the cells that they have set.
+use crate::bare::non_air;
+use crate::chunk::id;
+use crate::journals;
+use crate::model::{Call, Lent, Reply};
+use crate::report::Report;
+use crate::rng::Rng;
+use crate::session::{called, session, Calls};
+use std::collections::BTreeMap;
+
+/// How many calls are made on the states of one session.
+const ON_ONE: u64 = 12;
+
+/// Every kind of reply, each to be met in a run.
+const KINDS: [&str; 14] = [
+    "refused",
+    "without a line",
+    "set: the id that was there",
+    "set: another id",
+    "column: no cell",
+    "column: some cells",
+    "column: every cell",
+    "batch: no cell",
+    "batch: fewer cells than groups",
+    "batch: as many cells as groups",
+    "undo: no cell",
+    "undo: one cell",
+    "undo: some cells",
+    "undo: every cell",
+];
+
+/// The kind of a reply, by how many cells were altered. `size` is the chunk's.
+fn kind(call: &Call, reply: &Reply, line: bool, size: usize) -> &'static str {
+    match (call, reply.altered) {
+        _ if reply.number != 0 => "refused",
+        _ if !line => "without a line",
+        (Call::Set(..), 0) => "set: the id that was there",
+        (Call::Set(..), _) => "set: another id",
+        (Call::Column { .. }, 0) => "column: no cell",
+        (Call::Column { .. }, n) if n == size => "column: every cell",
+        (Call::Column { .. }, _) => "column: some cells",
+        (Call::Batch(_), 0) => "batch: no cell",
+        (Call::Batch(_), n) if n < reply.written => "batch: fewer cells than groups",
+        (Call::Batch(_), _) => "batch: as many cells as groups",
+        (Call::Undo, 0) => "undo: no cell",
+        (Call::Undo, 1) => "undo: one cell",
+        (Call::Undo, n) if n == size.pow(3) => "undo: every cell",
+        (Call::Undo, _) => "undo: some cells",
+    }
+}
+
+/// Cells whose ids are one off, in this cell or in every one.
+pub fn one_off(cells: &[u16], only: Option<usize>) -> Vec<u16> {
+    let off = |(i, &id): (usize, &u16)| match only {
+        Some(one) if one != i => id,
+        _ => id.wrapping_add(1),
+    };
+    cells.iter().enumerate().map(off).collect()
+}
+
+/// The session with its own cells, or with others; the count is the record's, or that of the cells.
+fn lend(rng: &mut Rng, own: &Lent) -> Lent {
+    let mut lent = own.clone();
+    let cells = lent.cells.len() as u64;
+    match rng.below(6) {
+        0 => lent.cells.iter_mut().for_each(|c| *c = id(rng)),
+        1 => lent.cells.fill(id(rng)),
+        2 => lent.cells = one_off(&own.cells, None),
+        3 => lent.cells = one_off(&own.cells, Some(rng.below(cells) as usize)),
+        4 => lent.cells.rotate_left(rng.below(cells) as usize),
+        _ => {}
+    }
+    if rng.once_in(2) {
+        lent.record.count = non_air(&lent.cells) as u32;
+    }
+    lent
+}
+
+/// A batch on a few cells, which are set to some ids in turn, and back to those that they hold.
+fn back_and_forth(rng: &mut Rng, lent: &Lent) -> Call {
+    let size = lent.record.site.chunk_size;
+    let few = rng.range(1, 4);
+    let at: Vec<[usize; 3]> = (0..few)
+        .map(|_| std::array::from_fn(|_| rng.below(size as u64) as usize))
+        .collect();
+    let group = |_| {
+        let [x, y, z] = rng.pick(&at);
+        let held = lent.cells[x + y * size + z * size * size];
+        let id = if rng.once_in(2) { held } else { id(rng) };
+        [
+            x as u32,
+            y as u32,
+            z as u32,
+            u32::from(id) + 65_536 * rng.pick(&[0, 1]),
+        ]
+    };
+    Call::Batch((0..few + 4).flat_map(group).collect())
+}
+
+/// A call, often an undo or a batch that comes back to its cells.
+fn press(rng: &mut Rng, lent: &Lent) -> Call {
+    match rng.below(4) {
+        0 => Call::Undo,
+        1 => back_and_forth(rng, lent),
+        _ => journals::call(rng, lent.record.site.chunk_size),
+    }
+}
+
+/// So many calls on sessions that lend cells of any kind. A kind of reply that was never met is a failure.
+pub fn compare(report: &mut Report, calls: &impl Calls, many: u64) {
+    let mut met: BTreeMap<&str, u64> = BTreeMap::new();
+    let mut rng = Rng::new(11);
+    let mut done = 0;
+    while done < many {
+        let turns = rng.below(12);
+        let Some(states) = session(&mut Report::quiet(), &mut rng, calls, turns) else {
+            continue;
+        };
+        let own = &states[states.len() - 1];
+        for _ in 0..ON_ONE {
+            let lent = lend(&mut rng, own);
+            let call = press(&mut rng, &lent);
+            let (left, reply) = called(report, calls, &lent, &call);
+            let line = left.record.used > lent.record.used;
+            *met.entry(kind(&call, &reply, line, lent.record.site.chunk_size))
+                .or_insert(0) += 1;
+            done += 1;
+        }
+    }
+    println!("cells of any kind: {done} calls, by what they altered {met:?}");
+    for kind in KINDS.iter().filter(|kind| many > 0 && !met.contains_key(**kind)) {
+        report.fail(format!("no call met '{kind}'"));
+    }
+}
