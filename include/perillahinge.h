@@ -222,8 +222,9 @@ pl_answer pl_replace_blocks(uint16_t *cells, size_t cells_len, size_t size, cons
 pl_answer pl_extract_border(const uint16_t *cells, size_t cells_len, size_t size, uint32_t face, uint16_t *border,
                             size_t border_len);
 
-/* Lists each nonzero id present, once, in ids, and its number of cells at the same place in counts; the order is
- * free, and places past them are left as they were. Value: how many ids. Refused: 1, 6, 13 (either list). */
+/* Lists the nonzero ids present, once each and in ascending order, in ids, and each one's number of cells at the same
+ * place in counts; places past them are left as they were. Lists of cells_len places, or of 65,535, are never too
+ * short. Value: how many ids. Refused: 1, 6, 13 (either list). */
 pl_answer pl_tally(const uint16_t *cells, size_t cells_len, size_t size, uint16_t *ids, size_t ids_len,
                    uint32_t *counts, size_t counts_len);
 

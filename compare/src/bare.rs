@@ -161,22 +161,29 @@ pub fn set_blocks(cells: &mut [u16], size: usize, count: u32, edits: &[u32]) -> 
     }
 }
 
-/// The ids present with their numbers of cells, ascending; the product may list them in any order (SCOPE 5.9).
-pub fn tally(cells: &[u16]) -> Vec<(u16, u32)> {
-    let mut found = std::collections::BTreeMap::new();
-    for &id in cells.iter().filter(|&&id| id != 0) {
-        *found.entry(id).or_insert(0) += 1;
-    }
-    found.into_iter().collect()
+/// The ids other than 0 that some cell holds, each once and beside the number of its cells, in ascending id.
+pub fn present(cells: &[u16]) -> Vec<(u16, u32)> {
+    let mut held: Vec<u16> = cells.iter().copied().filter(|&id| id != 0).collect();
+    held.sort_unstable();
+    let alike = held.chunk_by(|a, b| a == b);
+    alike.map(|same| (same[0], same.len() as u32)).collect()
 }
 
-/// The refusal of a tally, 0 for none: 1, 6, then 13 where either list is too short.
-pub fn tally_refusal(cells: &[u16], size: usize, ids: usize, counts: usize) -> u32 {
-    let present = tally(cells).len();
-    match shape(cells, size) {
-        0 if ids < present || counts < present => 13,
-        number => number,
+/// SCOPE 5.9; in the order 1, 6, 13. Places of the two lists past the ids are left.
+pub fn tally(cells: &[u16], size: usize, ids: &mut [u16], counts: &mut [u32]) -> Reply {
+    let number = shape(cells, size);
+    if number != 0 {
+        return refused(number);
     }
+    let listed = present(cells);
+    if ids.len() < listed.len() || counts.len() < listed.len() {
+        return refused(13);
+    }
+    for (i, &(id, count)) in listed.iter().enumerate() {
+        ids[i] = id;
+        counts[i] = count;
+    }
+    accepted(listed.len() as u32)
 }
 
 /// The refusal of a border, 0 for none: 1, 6, and 6 again where the border is not size² long.

@@ -1,10 +1,11 @@
 //! The calls on lent cells against the original's `Chunk`, after each call of random lists: cells,
-//! count and answer. Calls that the original does not take (bad sizes, wrong counts, cells outside)
+//! count and answer. Calls that the original does not take (bad sizes, wrong counts, cells outside, tallies)
 //! are held to bare.rs alone, which has the refusals.
 use crate::bare::{self, Reply};
 use crate::product;
 use crate::report::Report;
 use crate::rng::Rng;
+use crate::tally;
 use original::chunk::Chunk;
 
 /// How many calls a run makes.
@@ -273,27 +274,8 @@ impl Both {
     }
 
     fn tally(&self, report: &mut Report, rng: &mut Rng) {
-        let wanted = bare::tally(&self.cells);
-        let n = wanted.len();
-        let lengths = [n, n, n + 1, n + 7, n.saturating_sub(1)];
-        let (mut ids, mut counts) = (
-            vec![STALE; rng.pick(&lengths)],
-            vec![STALE as u32; rng.pick(&lengths)],
-        );
-        let answer = product::tally(&self.cells, self.size, &mut ids, &mut counts);
-        let number = bare::tally_refusal(&self.cells, self.size, ids.len(), counts.len());
-        let listed = if number == 0 { n } else { 0 };
-        let mut found: Vec<_> = ids
-            .iter()
-            .copied()
-            .zip(counts.iter().copied())
-            .take(listed)
-            .collect();
-        found.sort();
-        let kept =
-            ids[listed..].iter().all(|&i| i == STALE) && counts[listed..].iter().all(|&c| c == STALE as u32);
-        let same = answer == (number, listed) && kept && found == wanted[..listed];
-        report.same(same, || format!("tally, size {}: wanted {number}, {wanted:?}, product {answer:?}, {found:?}, rest kept: {kept}", self.size));
+        let lists = tally::lists(rng, &bare::present(&self.cells), false);
+        tally::called(report, &product::tally, &self.cells, self.size, &lists);
     }
 
     /// A call with a bad size, cells of another length or a wrong count: the model alone says

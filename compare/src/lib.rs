@@ -16,4 +16,5 @@ pub mod seen;
 pub mod session;
 pub mod stack;
 pub mod system;
+pub mod tally;
 pub mod vectors;

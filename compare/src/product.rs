@@ -116,11 +116,9 @@ pub fn extract_border(cells: &[u16], size: usize, face: u32, border: &mut [u16])
     answer(unsafe { raw::pl_extract_border(cells.as_ptr(), cells.len(), size, face, b, m) })
 }
 
-/// Answers the refusal's number and how many ids were listed.
-pub fn tally(cells: &[u16], size: usize, ids: &mut [u16], counts: &mut [u32]) -> (u32, usize) {
+pub fn tally(cells: &[u16], size: usize, ids: &mut [u16], counts: &mut [u32]) -> Reply {
     let (c, n, i, m) = (cells.as_ptr(), cells.len(), ids.as_mut_ptr(), ids.len());
-    let answer = unsafe { raw::pl_tally(c, n, size, i, m, counts.as_mut_ptr(), counts.len()) };
-    (number(answer.number, answer.line == 0), answer.value)
+    answer(unsafe { raw::pl_tally(c, n, size, i, m, counts.as_mut_ptr(), counts.len()) })
 }
 
 fn session(r: &Record) -> Session {

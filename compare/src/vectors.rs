@@ -1,6 +1,6 @@
 //! The lists that program crates replay in the gate, where no Rust is at hand. A crate's `stdin`
 //! has the inputs, its `stdout` the answers, and both come from here: from the original, and for
-//! refusals from bare.rs. Nothing of the product is in them.
+//! refusals and tallies from bare.rs. Nothing of the product is in them.
 use crate::bare;
 use crate::ground::Site;
 use crate::ground::{height_at, in_biome, reach, rust_ground};
@@ -20,6 +20,9 @@ pub struct List {
     stdin: String,
     stdout: String,
 }
+
+/// A program reads so many bytes of its input at most.
+const READ: usize = 65_536;
 
 /// Chunks up to this size are printed whole.
 const WHOLE: usize = 5;
@@ -317,13 +320,22 @@ struct Asked {
     args: [u32; 3],
 }
 
-/// A call in order, on cells that hold 0, 1, 2, 3, 4 in turn.
+/// The cells that a call is lent hold 0, 1, 2, 3, 4 in turn; the first one of a tally holds the call's id.
+fn lent_cells(q: &Asked) -> Vec<u16> {
+    let mut cells: Vec<u16> = (0..q.lent).map(|i| (i % 5) as u16).collect();
+    if let (10, Some(first)) = (q.kind, cells.first_mut()) {
+        *first = q.id;
+    }
+    cells
+}
+
+/// A call in order.
 fn usual_call(kind: u32, size: u32) -> Asked {
     let lent = size * size * size;
     let args = match kind {
         5 => [lent, 0, 0],
         9 => [0, size * size, 0],
-        10 => [4, 4, 0],
+        10 => [5, 5, 0],
         _ => [0, size - 1, size - 1],
     };
     Asked {
@@ -366,13 +378,35 @@ fn asked_calls() -> Vec<Asked> {
         10 => q.args.iter().all(|&a| a <= 16),
         _ => true,
     });
+    all.extend(tallies());
+    all
+}
+
+/// Tallies of chunks with no id, with one and with some, whose first cell holds air, an id that is there already, or one
+/// above all others: in lists that just fit, that have one place more, all 16, or one too few.
+fn tallies() -> Vec<Asked> {
+    let mut all = vec![];
+    for size in [1, 2, 5] {
+        for id in [0, 1, 4, 5, 7, 8191, 8192, 57_344, 65_535] {
+            let q = Asked {
+                id,
+                ..usual_call(10, size)
+            };
+            let n = bare::present(&lent_cells(&q)).len() as u32;
+            let mut places = vec![[n, n], [n + 1, n], [n, n + 1], [n + 1, n + 1], [16, 16]];
+            if n > 0 {
+                places.extend([[n - 1, n], [n, n - 1]]);
+            }
+            all.extend(places.iter().map(|&[a, b]| Asked { args: [a, b, 0], ..q }));
+        }
+    }
     all
 }
 
 /// What a call answers and how it leaves what was lent to be written: bare.rs, held to the original
 /// where that takes the call.
 fn cells_line(report: &mut Report, q: &Asked) -> String {
-    let mut cells: Vec<u16> = (0..q.lent).map(|i| (i % 5) as u16).collect();
+    let mut cells = lent_cells(q);
     let before = cells.clone();
     let size = q.size as usize;
     let at = q.args.map(|a| a as usize);
@@ -464,11 +498,15 @@ fn border_line(cells: &[u16], size: usize, [face, places, _]: [usize; 3]) -> Str
     format!("0 0 {}\n", checksum(&chunk.extract_border(Face::ALL[face])))
 }
 
-fn tally_line(cells: &[u16], size: usize, [ids, counts, _]: [usize; 3]) -> String {
-    match bare::tally_refusal(cells, size, ids, counts) {
-        0 => format!("0 {} 0\n", bare::tally(cells).len()),
-        number => format!("{number} 0 0\n"),
-    }
+/// The number, how many ids, and every place of both lists, which hold 9 before the call.
+fn tally_line(cells: &[u16], size: usize, [a, b, _]: [usize; 3]) -> String {
+    let (mut ids, mut counts) = (vec![9; a], vec![9; b]);
+    let reply = bare::tally(cells, size, &mut ids, &mut counts);
+    let mut line = format!("{} {}", reply.number, reply.value);
+    let places = ids.iter().map(|&id| id.into()).chain(counts);
+    places.for_each(|place: u32| line.push_str(&format!(" {place}")));
+    line.push('\n');
+    line
 }
 
 fn cells(report: &mut Report) -> List {
@@ -491,7 +529,11 @@ fn file(list: &List, name: &str) -> PathBuf {
 }
 
 fn lists(report: &mut Report) -> Vec<List> {
-    vec![noise(), ground(report), cells(report)]
+    let all = vec![noise(), ground(report), cells(report)];
+    for list in all.iter().filter(|list| list.stdin.len() > READ) {
+        report.fail(format!("{} cannot read its whole list", list.name));
+    }
+    all
 }
 
 /// Writes the lists beside the programs that replay them. Run from the repository's root.

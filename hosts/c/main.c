@@ -224,6 +224,28 @@ static void worked_out(void) {
     CHECK(refused(pl_session_undo(&s, cells, 8, j, JOURNAL), PL_NOTHING_ACTIVE));
 }
 
+/* Tallies of eight cells, worked out by hand: ids that do not stand in ascending order, one id, none. The lists hold 7
+ * before, and keep it past the ids. */
+static void tallies(void) {
+    static const struct {
+        uint16_t cells[8];
+        size_t n;
+        uint16_t ids[5];
+        uint32_t counts[5];
+    } wanted[3] = {
+        {{5, 65535, 5, 0, 3, 40000, 3, 5}, 4, {3, 5, 40000, 65535, 7}, {2, 3, 1, 1, 7}},
+        {{0, 300, 0, 0, 300, 300, 0, 0}, 1, {300, 7, 7, 7, 7}, {3, 7, 7, 7, 7}},
+        {{0, 0, 0, 0, 0, 0, 0, 0}, 0, {7, 7, 7, 7, 7}, {7, 7, 7, 7, 7}},
+    };
+    for (size_t i = 0; i < 3; i++) {
+        uint16_t ids[5] = {7, 7, 7, 7, 7};
+        uint32_t counts[5] = {7, 7, 7, 7, 7};
+        const pl_answer a = pl_tally(wanted[i].cells, 8, 2, ids, 5, counts, 5);
+        CHECK(a.number == PL_OK && a.line == 0 && a.value == wanted[i].n);
+        CHECK(memcmp(ids, wanted[i].ids, sizeof ids) == 0 && memcmp(counts, wanted[i].counts, sizeof counts) == 0);
+    }
+}
+
 int main(void) {
     static tablet maps[PRESSES + 1]; /* the map after each line */
     static storage file;
@@ -255,6 +277,7 @@ int main(void) {
     bare(&t);
     example();
     worked_out();
+    tallies();
     printf("host in %s: %zu bytes, a cut at each, the map is there\n",
 #ifdef __cplusplus
            "C++",

@@ -4,7 +4,7 @@ use Prim.Native.Nat.{ℕ, zero, suc, _+_, _-_, _≤_, _<_}
 use native.Mathlib.Omega.{arith}
 use native.Mathlib.Numerals.{add-one}
 use mathlib.Core.Bool.{Bool, true, false, _&&_}
-use mathlib.Core.List.{List, [], _∷_, _++_}
+use mathlib.Core.List.{List, [], _∷_, _++_, map}
 use lib.Dec.{ltb, eqb}
 use lib.ListN.{length, set, getD, take, length-set}
 use lib.Seq.{ext-getD, getD-set-same, getD-set-other, take-suc}
@@ -26,17 +26,18 @@ idCount (a ∷ c) v = same a v + idCount c v
 abbrev pub listIf : ℕ → ℕ → ℕ → List ℕ
 listIf id n x = pick (ltb 0 id && ltb 0 n) (x ∷ []) []
 
--- x of each id from b on, m of them, of which f is not 0
+-- of the m ids from b on, x of each that is not 0 and of which f is not 0: upward, the last one behind all others
 unfoldable pub span : ℕ → ℕ → (ℕ → ℕ) → (ℕ → ℕ) → List ℕ
 span b zero f x = []
 span b (suc m) f x = span b m f x ++ listIf (b + m) (f (b + m)) (x (b + m))
 
--- the ids, and the number of cells of each
+-- the ids that the cells hold, but air, upward
 unfoldable pub presentIds : List ℕ → List ℕ
 presentIds c = span 0 65536 (idCount c) (λ (v : ℕ). v)
 
+-- the number of cells of each, in the ids' order
 unfoldable pub presentCounts : List ℕ → List ℕ
-presentCounts c = span 0 65536 (idCount c) (idCount c)
+presentCounts c = map (idCount c) (presentIds c)
 
 -- ---- a table of the numbers of cells of 8,192 ids from base on
 

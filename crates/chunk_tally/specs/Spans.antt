@@ -1,18 +1,25 @@
--- The laws of ids listed in ascending order, and of lists that are written from the front (SCOPE 5.9). Assumes nothing.
+-- The laws of ids listed in ascending order, and of lists that they are written into (SCOPE 5.9). Assumes nothing.
 use mathlib.Core.Path.{_≡_, refl, sym, ap, ap₂, _∙_}
 use Prim.Native.Nat.{ℕ, zero, suc, _+_, _-_, _*_, _≤_, _<_}
 use native.Mathlib.Omega.{arith}
 use native.Mathlib.Nat.{zero-add, add-suc, add-zero, pos-of-ne-zero}
 use native.Mathlib.Numerals.{add-one}
 use mathlib.Core.Bool.{Bool, true, false, _&&_}
-use mathlib.Core.List.{List, [], _∷_, _++_, append-assoc, append-nil}
+use mathlib.Core.List.{List, [], _∷_, _++_, map, map-append, append-assoc, append-nil}
 use mathlib.Core.Logic.{_⊎_, inl, inr}
 use lib.Dec.{ltb}
-use lib.ListN.{length, set, getD, drop, length-append, length-drop, List·getD-append}
-use lib.Seq.{sets, sets-eq, take-at, drop-append-add, drop-drop, getD-at}
+use lib.ListN.{length, set, getD, length-append, List·getD-append}
+use lib.Seq.{sets, length-sets, getD-at}
 use borrow.Author.Tests.{ltb-true, ltb-false, lt-ltb, le-ltb}
 use Rattle.basics.specs.Bools.{pick}
-use Rattle.chunk_tally.specs.Ids.{listIf, span, idCount, idTable, table-at, windowIds, windowCounts, seenIds, seenCounts, presentIds}
+use Rattle.chunk_tally.specs.Ids.{listIf, span, idCount, idTable, table-at, windowIds, windowCounts, seenIds, seenCounts, presentIds, presentCounts}
+
+-- the ids below m that are listed, and f of each
+abbrev pub idsTo : ℕ → (ℕ → ℕ) → List ℕ
+idsTo m f = span 0 m f (λ (v : ℕ). v)
+
+abbrev pub countsTo : ℕ → (ℕ → ℕ) → List ℕ
+countsTo m f = span 0 m f f
 
 pub span-more : (b m : ℕ) (f x : ℕ → ℕ) → span b (m + 1) f x ≡ span b m f x ++ listIf (b + m) (f (b + m)) (x (b + m))
 unfolding span
@@ -39,20 +46,20 @@ span-add b (suc m) f x =
     ∙ ap₂ (λ (l : List ℕ). λ (v : ℕ). l ++ listIf v (f v) (x v)) (span-add b m f x) (zero-add (b + m))
     ∙ append-assoc (span 0 b f x) (span b m f x) (listIf (b + m) (f (b + m)) (x (b + m)))
 
-list-length : (id n x y : ℕ) → length (listIf id n x) ≡ length (listIf id n y)
-list-length id n x y = at (ltb 0 id && ltb 0 n)
+map-list : (id n : ℕ) (x : ℕ → ℕ) → map x (listIf id n id) ≡ listIf id n (x id)
+map-list id n x = at (ltb 0 id && ltb 0 n)
   where
-    at : (b : Bool) → length (pick b (x ∷ []) []) ≡ length (pick b (y ∷ []) [])
+    at : (b : Bool) → map x (pick b (id ∷ []) []) ≡ pick b (x id ∷ []) []
     at true = refl
     at false = refl
 
-pub span-length : (b m : ℕ) (f x y : ℕ → ℕ) → length (span b m f x) ≡ length (span b m f y)
+-- x of each id that is listed
+pub map-span : (b m : ℕ) (f x : ℕ → ℕ) → map x (span b m f (λ (v : ℕ). v)) ≡ span b m f x
 unfolding span
-span-length b zero f x y = refl
-span-length b (suc m) f x y =
-    length-append (span b m f x) (listIf (b + m) (f (b + m)) (x (b + m)))
-    ∙ ap₂ (λ (i : ℕ). λ (j : ℕ). i + j) (span-length b m f x y) (list-length (b + m) (f (b + m)) (x (b + m)) (y (b + m)))
-    ∙ sym (length-append (span b m f y) (listIf (b + m) (f (b + m)) (y (b + m))))
+map-span b zero f x = refl
+map-span b (suc m) f x =
+    map-append x (span b m f (λ (v : ℕ). v)) (listIf (b + m) (f (b + m)) (b + m))
+    ∙ ap₂ (λ (l : List ℕ). λ (r : List ℕ). l ++ r) (map-span b m f x) (map-list (b + m) (f (b + m)) x)
 
 pub list-most : (id n x : ℕ) → length (listIf id n x) ≤ 1
 list-most id n x = at (ltb 0 id && ltb 0 n)
@@ -94,25 +101,52 @@ pub window-counts : (base : ℕ) (c : List ℕ) → windowCounts base (idTable b
 unfolding windowCounts
 window-counts base c = span-same base 8192 _ (idCount c) _ (idCount c) (window-at base c) (window-at base c)
 
--- ---- lists written from the front
+-- ---- ids and counts written into two lists
 
-pub sets-append : (l : List ℕ) (i : ℕ) (vs us : List ℕ) → sets l i (vs ++ us) ≡ sets (sets l i vs) (i + length vs) us
+-- p and q stand in the lists from a place on, all else is as it was, and the next ones go behind them
+pub record Wrote (start : ℕ) (ids counts p q ids′ counts′ : List ℕ) (next : ℕ) : Type 0 where
+  pub behind : next ≡ start + length p
+  pub even : length p ≡ length q
+  pub ids-hold : ids′ ≡ sets ids start p
+  pub counts-hold : counts′ ≡ sets counts start q
+
+sets-append : (l : List ℕ) (i : ℕ) (vs us : List ℕ) → sets l i (vs ++ us) ≡ sets (sets l i vs) (i + length vs) us
 sets-append l i [] us = ap (λ (k : ℕ). sets l k us) (sym (add-zero i))
 sets-append l i (v ∷ vs) us =
     sets-append (set l i v) (suc i) vs us
     ∙ ap (λ (k : ℕ). sets (sets (set l i v) (suc i) vs) k us) (let e : suc i + length vs ≡ i + length (v ∷ vs) = omega arith in e)
 
-pub sets-behind :
-    (p d w : List ℕ) (n : ℕ) → n ≡ length p → n + length w ≤ length d
-    → sets (p ++ drop n d) n w ≡ (p ++ w) ++ drop (n + length w) d
-sets-behind p d w n e h =
-    let l : length (p ++ drop n d) ≡ length d = simp (length-append, length-drop) (omega arith) in
-    sets-eq w (p ++ drop n d) n (omega arith)
-    ∙ ap₂ (λ (a : List ℕ). λ (r : List ℕ). (a ++ w) ++ r)
-    (take-at p (drop n d) n (sym e))
-    (ap (λ (k : ℕ). drop (k + length w) (p ++ drop n d)) e
-    ∙ drop-append-add p (drop n d) (length w)
-    ∙ drop-drop (length w) n d)
+module _ {start : ℕ} {ids counts : List ℕ} where
+  pub wrote-none : Wrote start ids counts [] [] ids counts start
+  wrote-none = record { behind = sym (add-zero start); even = refl; ids-hold = refl; counts-hold = refl }
+
+  -- more of them, behind those that are there
+  pub wrote-more : {p q ids′ counts′ u v ids″ counts″ : List ℕ} {at next : ℕ} → Wrote start ids counts p q ids′ counts′ at
+      → Wrote at ids′ counts′ u v ids″ counts″ next → Wrote start ids counts (p ++ u) (q ++ v) ids″ counts″ next
+  wrote-more {p} {q} {u = u} {v = v} w x =
+      record {
+        behind = (let e = w .behind in let f = x .behind in let l = length-append p u in omega arith);
+        even = length-append p u ∙ ap₂ (λ (i : ℕ). λ (j : ℕ). i + j) (w .even) (x .even) ∙ sym (length-append q v);
+        ids-hold = x .ids-hold ∙ ap₂ (λ (l : List ℕ). λ (k : ℕ). sets l k u) (w .ids-hold) (w .behind) ∙ sym (sets-append ids start p u);
+        counts-hold = x .counts-hold ∙ ap₂ (λ (l : List ℕ). λ (k : ℕ). sets l k v) (w .counts-hold) (w .behind ∙ ap (λ (k : ℕ). start + k) (w .even))
+            ∙ sym (sets-append counts start q v);
+      }
+
+  pub wrote-as : {p q p′ q′ ids′ counts′ : List ℕ} {next : ℕ} → p ≡ p′ → q ≡ q′ → Wrote start ids counts p q ids′ counts′ next
+      → Wrote start ids counts p′ q′ ids′ counts′ next
+  wrote-as e f w =
+      record {
+        behind = w .behind ∙ ap (λ (r : List ℕ). start + length r) e;
+        even = ap length (sym e) ∙ w .even ∙ ap length f;
+        ids-hold = w .ids-hold ∙ ap (sets ids start) e;
+        counts-hold = w .counts-hold ∙ ap (sets counts start) f;
+      }
+
+  pub ids-long : {p q ids′ counts′ : List ℕ} {next : ℕ} → Wrote start ids counts p q ids′ counts′ next → length ids′ ≡ length ids
+  ids-long {p} w = ap length (w .ids-hold) ∙ length-sets ids start p
+
+  pub counts-long : {p q ids′ counts′ : List ℕ} {next : ℕ} → Wrote start ids counts p q ids′ counts′ next → length counts′ ≡ length counts
+  counts-long {p} {q} w = ap length (w .counts-hold) ∙ length-sets counts start q
 
 -- ---- a list with one more at its end, or not
 
@@ -154,6 +188,16 @@ list-no-cell id n x e = at (ltb 0 id) (le-ltb 0 n (omega arith))
 pub list-one : (id n x : ℕ) → (id ≡ 0 → ⊥) → (n ≡ 0 → ⊥) → listIf id n x ≡ x ∷ []
 list-one id n x p q = rw (lt-ltb 0 id (pos-of-ne-zero p), lt-ltb 0 n (pos-of-ne-zero q))
 
+-- nothing is written for what is not listed
+pub wrote-not : (at id n : ℕ) (ids counts : List ℕ) → ((x : ℕ) → listIf id n x ≡ []) → Wrote at ids counts (listIf id n id) (listIf id n n) ids counts at
+wrote-not at id n ids counts e = wrote-as (sym (e id)) (sym (e n)) wrote-none
+
+-- an id and its number of cells
+pub wrote-one : (at id n : ℕ) (ids counts : List ℕ) → (id ≡ 0 → ⊥) → (n ≡ 0 → ⊥)
+    → Wrote at ids counts (listIf id n id) (listIf id n n) (set ids at id) (set counts at n) (at + 1)
+wrote-one at id n ids counts p q =
+    wrote-as (sym (list-one id n id p q)) (sym (list-one id n n p q)) (record { behind = refl; even = refl; ids-hold = refl; counts-hold = refl })
+
 -- ---- a window, id by id
 
 pub ids-step : (b k : ℕ) (t : List ℕ) → seenIds b k t ++ listIf (b + k) (getD t k 0) (b + k) ≡ seenIds b (k + 1) t
@@ -180,47 +224,45 @@ pub window-most : (b : ℕ) (t : List ℕ) → length (windowIds b t) ≤ 8192
 unfolding windowIds
 window-most b t = span-most b 8192 (λ (v : ℕ). getD t (v - b) 0) (λ (v : ℕ). v)
 
-pub sets-step :
-    (l l′ d p q r : List ℕ) (at start : ℕ) → at ≡ start + length p → l ≡ sets d start p → l′ ≡ sets l at q → p ++ q ≡ r → l′ ≡ sets d start r
-sets-step l l′ d p q r at start ea el e er =
-    e ∙ ap₂ (λ (m : List ℕ). λ (k : ℕ). sets m k q) el ea ∙ sym (sets-append d start p q) ∙ ap (sets d start) er
-
 -- ---- window by window
 
 pub ids-window : (w : ℕ) (c t : List ℕ) → t ≡ idTable (w * 8192) c
-    → span 0 (w * 8192) (idCount c) (λ (v : ℕ). v) ++ windowIds (w * 8192) t ≡ span 0 ((w + 1) * 8192) (idCount c) (λ (v : ℕ). v)
+    → idsTo (w * 8192) (idCount c) ++ windowIds (w * 8192) t ≡ idsTo ((w + 1) * 8192) (idCount c)
 ids-window w c t e =
-    ap (λ (r : List ℕ). span 0 (w * 8192) (idCount c) (λ (v : ℕ). v) ++ r) (ap (windowIds (w * 8192)) e ∙ window-ids (w * 8192) c)
+    ap (λ (r : List ℕ). idsTo (w * 8192) (idCount c) ++ r) (ap (windowIds (w * 8192)) e ∙ window-ids (w * 8192) c)
     ∙ sym (span-add (w * 8192) 8192 (idCount c) (λ (v : ℕ). v))
-    ∙ ap (λ (k : ℕ). span 0 k (idCount c) (λ (v : ℕ). v)) (let q : w * 8192 + 8192 ≡ (w + 1) * 8192 = omega arith in q)
+    ∙ ap (λ (k : ℕ). idsTo k (idCount c)) (let q : w * 8192 + 8192 ≡ (w + 1) * 8192 = omega arith in q)
 
 pub counts-window : (w : ℕ) (c t : List ℕ) → t ≡ idTable (w * 8192) c
-    → span 0 (w * 8192) (idCount c) (idCount c) ++ windowCounts (w * 8192) t ≡ span 0 ((w + 1) * 8192) (idCount c) (idCount c)
+    → countsTo (w * 8192) (idCount c) ++ windowCounts (w * 8192) t ≡ countsTo ((w + 1) * 8192) (idCount c)
 counts-window w c t e =
-    ap (λ (r : List ℕ). span 0 (w * 8192) (idCount c) (idCount c) ++ r) (ap (windowCounts (w * 8192)) e ∙ window-counts (w * 8192) c)
+    ap (λ (r : List ℕ). countsTo (w * 8192) (idCount c) ++ r) (ap (windowCounts (w * 8192)) e ∙ window-counts (w * 8192) c)
     ∙ sym (span-add (w * 8192) 8192 (idCount c) (idCount c))
-    ∙ ap (λ (k : ℕ). span 0 k (idCount c) (idCount c)) (let q : w * 8192 + 8192 ≡ (w + 1) * 8192 = omega arith in q)
+    ∙ ap (λ (k : ℕ). countsTo k (idCount c)) (let q : w * 8192 + 8192 ≡ (w + 1) * 8192 = omega arith in q)
 
 pub window-length : (w : ℕ) (c t : List ℕ) → t ≡ idTable (w * 8192) c
-    → length (span 0 (w * 8192) (idCount c) (λ (v : ℕ). v)) + length (windowIds (w * 8192) t) ≡ length (span 0 ((w + 1) * 8192) (idCount c) (λ (v : ℕ). v))
-window-length w c t e = sym (length-append (span 0 (w * 8192) (idCount c) (λ (v : ℕ). v)) (windowIds (w * 8192) t)) ∙ ap length (ids-window w c t e)
+    → length (idsTo (w * 8192) (idCount c)) + length (windowIds (w * 8192) t) ≡ length (idsTo ((w + 1) * 8192) (idCount c))
+window-length w c t e = sym (length-append (idsTo (w * 8192) (idCount c)) (windowIds (w * 8192) t)) ∙ ap length (ids-window w c t e)
 
-pub window-same : (b : ℕ) (t : List ℕ) → length (windowCounts b t) ≡ length (windowIds b t)
-unfolding windowIds windowCounts
-window-same b t = span-length b 8192 (λ (v : ℕ). getD t (v - b) 0) (λ (v : ℕ). getD t (v - b) 0) (λ (v : ℕ). v)
-
-pub prefix-most : (w : ℕ) (c : List ℕ) → w ≤ 8 → length (span 0 (w * 8192) (idCount c) (λ (v : ℕ). v)) ≤ length (presentIds c)
+pub prefix-most : (w : ℕ) (c : List ℕ) → w ≤ 8 → length (idsTo (w * 8192) (idCount c)) ≤ length (presentIds c)
 unfolding presentIds
 prefix-most w c h =
     let u = span-up 0 (w * 8192) (65536 - w * 8192) (idCount c) (λ (v : ℕ). v) in
-    let e = ap (λ (k : ℕ). length (span 0 k (idCount c) (λ (v : ℕ). v))) (let q : w * 8192 + (65536 - w * 8192) ≡ 65536 = omega arith in q) in
+    let e = ap (λ (k : ℕ). length (idsTo k (idCount c))) (let q : w * 8192 + (65536 - w * 8192) ≡ 65536 = omega arith in q) in
     omega arith
 
-pub front-step :
-    (p d w l l′ r : List ℕ) (n n′ : ℕ) → n ≡ length p → l ≡ p ++ drop n d → l′ ≡ sets l n w → n′ ≡ n + length w → n + length w ≤ length d → p ++ w ≡ r
-    → l′ ≡ r ++ drop n′ d
-front-step p d w l l′ r n n′ en el e em h er =
-    e ∙ ap (λ (m : List ℕ). sets m n w) el ∙ sets-behind p d w n en h ∙ ap₂ (λ (m : List ℕ). λ (k : ℕ). m ++ drop k d) er (sym em)
+-- the windows before w, and then window w
+pub wrote-window : (w : ℕ) (c t : List ℕ) {ids counts ids′ counts′ ids″ counts″ : List ℕ} {at next : ℕ} → t ≡ idTable (w * 8192) c
+    → Wrote 0 ids counts (idsTo (w * 8192) (idCount c)) (countsTo (w * 8192) (idCount c)) ids′ counts′ at
+    → Wrote at ids′ counts′ (windowIds (w * 8192) t) (windowCounts (w * 8192) t) ids″ counts″ next
+    → Wrote 0 ids counts (idsTo ((w + 1) * 8192) (idCount c)) (countsTo ((w + 1) * 8192) (idCount c)) ids″ counts″ next
+wrote-window w c t e l m = wrote-as (ids-window w c t e) (counts-window w c t e) (wrote-more l m)
 
-pub front-length : (p d l : List ℕ) (n : ℕ) → n ≡ length p → n ≤ length d → l ≡ p ++ drop n d → length l ≡ length d
-front-length p d l n en h e = ap length e ∙ simp (length-append, length-drop) (omega arith)
+-- all windows
+pub ids-all : (w : ℕ) (c : List ℕ) → w * 8192 ≡ 65536 → idsTo (w * 8192) (idCount c) ≡ presentIds c
+unfolding presentIds
+ids-all w c e = ap (λ (k : ℕ). idsTo k (idCount c)) e
+
+pub counts-all : (w : ℕ) (c : List ℕ) → w * 8192 ≡ 65536 → countsTo (w * 8192) (idCount c) ≡ presentCounts c
+unfolding presentIds presentCounts
+counts-all w c e = ap (λ (k : ℕ). countsTo k (idCount c)) e ∙ sym (map-span 0 65536 (idCount c) (idCount c))

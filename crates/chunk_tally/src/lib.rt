@@ -1,11 +1,12 @@
 // The ids that a chunk holds, each with its number of cells.
 ghost use mathlib.Core.Path.{_≡_};
 ghost use Prim.Native.Nat.{_+_, _≤_, _<_};
-ghost use mathlib.Core.List.{[], _++_};
-ghost use lib.ListN.{length, drop};
+ghost use mathlib.Core.List.{[]};
+ghost use lib.ListN.{length};
 ghost use lib.Seq.{sets};
 ghost use Rattle.chunk_tally.specs.Ids.{listIf, bumpAt, TableRoom, idTable, windowIds, windowCounts, presentIds, presentCounts};
-ghost use Rattle.chunk_tally.specs.Tally.{saysListed, Tallied};
+ghost use Rattle.chunk_tally.specs.Spans.{Wrote};
+ghost use Rattle.chunk_tally.specs.Tally.{saysListed, tallyOutcome, chunkTallyDoes};
 use config::refusals::OK;
 use config::refusals::TALLY_LISTS;
 
@@ -106,9 +107,7 @@ fn count_ids(cells: &[u16], table: &mut [u32]) -> usize
 // Writes an id that is listed, and its number of cells, and says where the next one goes.
 fn note(ids: &mut [u16], counts: &mut [u32], at: usize, id: usize, n: u32) -> usize
     requires { ⌜ (id < 65536) × (at + length (listIf id n id) ≤ length (now ids)) × (at + length (listIf id n id) ≤ length (now counts)) ⌝ }
-    ensures { λ r. ⌜ (r ≡ at + length (listIf id n id))
-        × (now (ids .exit) ≡ sets (now (ids .entry)) at (listIf id n id))
-        × (now (counts .exit) ≡ sets (now (counts .entry)) at (listIf id n n)) ⌝ }
+    ensures { λ r. ⌜ Wrote at (now (ids .entry)) (now (counts .entry)) (listIf id n id) (listIf id n n) (now (ids .exit)) (now (counts .exit)) r ⌝ }
 {
     if id == 0 {
         return at;
@@ -133,9 +132,9 @@ fn write_window(
         × (base ≤ 57344)
         × (start + length (windowIds base (now table)) ≤ length (now ids))
         × (start + length (windowIds base (now table)) ≤ length (now counts)) ⌝ }
-    ensures { λ r. ⌜ (r ≡ start + length (windowIds base (now (table .entry))))
-        × (now (ids .exit) ≡ sets (now (ids .entry)) start (windowIds base (now (table .entry))))
-        × (now (counts .exit) ≡ sets (now (counts .entry)) start (windowCounts base (now (table .entry)))) ⌝ }
+    ensures { λ r. ⌜ Wrote start (now (ids .entry)) (now (counts .entry))
+        (windowIds base (now (table .entry))) (windowCounts base (now (table .entry)))
+        (now (ids .exit)) (now (counts .exit)) r ⌝ }
 {
     let mut at = start;
     let mut k = 0;
@@ -152,8 +151,8 @@ fn list_ids(cells: &[u16], ids: &mut [u16], counts: &mut [u32], table: &mut [u32
         × (length (now cells) ≤ 262144)
         × (length (presentIds (now cells)) ≤ length (now ids))
         × (length (presentIds (now cells)) ≤ length (now counts)) ⌝ }
-    ensures { λ _. ⌜ (now (ids .exit) ≡ presentIds (now (cells .entry)) ++ drop (length (presentIds (now (cells .entry)))) (now (ids .entry)))
-        × (now (counts .exit) ≡ presentCounts (now (cells .entry)) ++ drop (length (presentIds (now (cells .entry)))) (now (counts .entry))) ⌝ }
+    ensures { λ _. ⌜ (now (ids .exit) ≡ sets (now (ids .entry)) 0 (presentIds (now (cells .entry))))
+        × (now (counts .exit) ≡ sets (now (counts .entry)) 0 (presentCounts (now (cells .entry)))) ⌝ }
 {
     let mut at = 0;
     let mut w = 0;
@@ -173,7 +172,8 @@ fn tally_in(
     table: &mut [u32],
 ) -> Listed
     requires { ⌜ length (now table) ≡ 8192 ⌝ }
-    ensures { λ r. ⌜ Tallied size (now (cells .entry)) (saysListed r) (now (ids .entry)) (now (counts .entry)) (now (ids .exit)) (now (counts .exit)) ⌝ }
+    ensures { λ r. ⌜ tallyOutcome (saysListed r) (now (ids .exit)) (now (counts .exit))
+        ≡ chunkTallyDoes size (now (cells .entry)) (now (ids .entry)) (now (counts .entry)) ⌝ }
 {
     let k = chunk::refuse_chunk(size, cells.len());
     if k != OK {
@@ -190,9 +190,10 @@ fn tally_in(
     Listed::Ids(n)
 }
 
-// Lists each id that the cells have, but air, with its number of cells, and answers how many.
+// Lists the ids that the cells have, but air, upward, each with its number of cells, and answers how many.
 pub fn tally(cells: &[u16], size: usize, ids: &mut [u16], counts: &mut [u32]) -> Listed
-    ensures { λ r. ⌜ Tallied size (now (cells .entry)) (saysListed r) (now (ids .entry)) (now (counts .entry)) (now (ids .exit)) (now (counts .exit)) ⌝ }
+    ensures { λ r. ⌜ tallyOutcome (saysListed r) (now (ids .exit)) (now (counts .exit))
+        ≡ chunkTallyDoes size (now (cells .entry)) (now (ids .entry)) (now (counts .entry)) ⌝ }
 {
     let mut table = [0u32; WINDOW];
     tally_in(cells, size, ids, counts, &mut table)

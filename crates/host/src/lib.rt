@@ -9,9 +9,10 @@ ghost use Rattle.ground.specs.Ground.{generateDoes};
 ghost use Rattle.chunk_look.specs.Calls.{chunkGetDoes, chunkIsAirDoes, chunkIsEmptyDoes, chunkIsSolidDoes};
 ghost use Rattle.chunk_edit.specs.Calls.{chunkReplaceDoes, chunkSetDoes, chunkFillDoes};
 ghost use Rattle.chunk_batch.specs.Calls.{chunkBatchDoes};
+ghost use Rattle.chunk_tally.specs.Tally.{chunkTallyDoes};
 ghost use Rattle.session_calls.specs.Calls.{sessionFreshDoes, sessionReopenDoes};
 ghost use Rattle.journal_prefix.specs.Prefix.{committedPart};
-ghost use Rattle.host_answers.specs.Answers.{answerOf, answered, editInC, batchAnswered, batchInC, borderAnswered, borderInCDoes, TalliedInC};
+ghost use Rattle.host_answers.specs.Answers.{answerOf, answered, editInC, batchAnswered, batchInC, borderAnswered, borderInCDoes, tallyAnswered, tallyInC};
 ghost use Rattle.host_starts.specs.Sessions.{begunInC, freshInC, resumedInC, reopenInC};
 
 mod by_reference;
@@ -177,7 +178,8 @@ pub extern "C" fn pl_tally(
     ids: &mut [u16],
     counts: &mut [u32],
 ) -> Answer
-    ensures { λ r. ⌜ TalliedInC size (now (cells .entry)) r (now (ids .entry)) (now (counts .entry)) (now (ids .exit)) (now (counts .exit)) ⌝ }
+    ensures { λ r. ⌜ tallyAnswered r (now (ids .exit)) (now (counts .exit))
+        ≡ tallyInC (chunkTallyDoes size (now (cells .entry)) (now (ids .entry)) (now (counts .entry))) ⌝ }
 {
     host_answers::tally_answer(chunk_tally::tally(cells, size, ids, counts))
 }

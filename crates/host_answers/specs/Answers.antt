@@ -8,7 +8,7 @@ use Rattle.config.specs.Answers.{Answer, accepted, refused, CellsOutcome, cells
 use Rattle.chunk_border.specs.declared.Face.{Face}
 use Rattle.chunk_border.specs.declared.Face.the-variants.{PosX, NegX, PosY, NegY, PosZ, NegZ}
 use Rattle.chunk_border.specs.Border.{chunkBorderDoes, bordered, Bordered}
-use Rattle.chunk_tally.specs.Tally.{Tallied}
+use Rattle.chunk_tally.specs.Tally.{TallyOutcome, tallyOutcome}
 use Rattle.host_answers.specs.declared.Answer.{Answer as AnswerInC}
 use Rattle.host_answers.specs.declared.BatchAnswer.{BatchAnswer as BatchAnswerInC}
 
@@ -98,11 +98,17 @@ borderInCDoes n size c b = borderAt (faceOf n) size c b
 
 -- ---- the tally
 
--- SCOPE 5.9: its lists are free in their order, so that its promise is a relation: `answer` is the one that `Tallied` allows
-pub record TalliedInC (size : ℕ) (c : List ℕ) (r : AnswerInC) (ids counts ids′ counts′ : List ℕ) : Type 0 where
-  pub answer : Answer
-  pub is : r ≡ answerOf answer
-  pub tallied : Tallied size c answer ids counts ids′ counts′
+pub record TallyAnswered : Type 0 where
+  pub answer : AnswerInC
+  pub ids : List ℕ
+  pub counts : List ℕ
+
+abbrev pub tallyAnswered : AnswerInC → List ℕ → List ℕ → TallyAnswered
+tallyAnswered a ids counts = record { answer = a; ids = ids; counts = counts }
+
+-- SCOPE 5.9: a tally with its two lists, as C sees it
+abbrev pub tallyInC : TallyOutcome → TallyAnswered
+tallyInC o = tallyAnswered (answerOf (o .answer)) (o .ids) (o .counts)
 
 -- ---- laws: an answer in C, of what the library's call answered
 
@@ -116,6 +122,10 @@ pub border-in-c : (n size : ℕ) (face : Face) (c b b′ : List ℕ) (r : Answer
     → faceOf n ≡ some face → r ≡ answerOf a → bordered a b′ ≡ chunkBorderDoes face size c b → borderAnswered r b′ ≡ borderInCDoes n size c b
 unfolding borderInCDoes
 border-in-c n size face c b b′ r a g e f = rw g (ap (λ (u : AnswerInC). borderAnswered u b′) e ∙ ap borderInC f)
+
+pub tally-in-c : (r : AnswerInC) (a : Answer) (ids counts : List ℕ) (o : TallyOutcome)
+    → r ≡ answerOf a → tallyOutcome a ids counts ≡ o → tallyAnswered r ids counts ≡ tallyInC o
+tally-in-c r a ids counts o e f = ap (λ (u : AnswerInC). tallyAnswered u ids counts) e ∙ ap tallyInC f
 
 -- only 0 to 5 name a face
 no-face : (n : ℕ) → 5 < n → faceOf n ≡ none

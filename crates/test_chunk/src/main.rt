@@ -1,8 +1,9 @@
 // Replays calls on cells at and around their limits. Each line of the input has seven numbers: the
 // call (its kind times 65,536, plus an id), a size, how many cells are lent, a count, and three
-// arguments. The cells hold 0, 1, 2, 3, 4 in turn. The program writes a line for each: the number of
-// the refusal or 0, the answer, and a checksum of what was lent to be written. The expected output
-// was made by the Rust original, or from SCOPE 5 where the original takes no such call.
+// arguments. The cells hold 0, 1, 2, 3, 4 in turn; the first one of a tally holds the id. The program
+// writes a line for each: the number of the refusal or 0, the answer, and a checksum of what was lent
+// to be written, or of a tally every place of both lists. The expected output was made by the Rust
+// original, or from SCOPE 5 where the original takes no such call.
 ghost use Prim.Native.Nat.{_≤_};
 ghost use mathlib.Core.Path.{_≡_};
 ghost use lib.ListN.{length};
@@ -144,30 +145,45 @@ fn bordered(q: Asked, cells: &[u16]) {
     }
 }
 
-fn listed(q: Asked, cells: &[u16], ids: &mut [u16], counts: &mut [u32]) {
-    match chunk_tally::tally(cells, q.size, ids, counts) {
-        Listed::Ids(n) => listed_ids(n),
-        Listed::Refused(k) => said(k, 0, ids),
+fn wide(n: u32) -> u64 {
+    n as u64
+}
+
+fn show_counts(counts: &[u32]) {
+    let mut i = 0;
+    while i < counts.len() {
+        test_vectors::show_next(wide(counts[i]));
+        i += 1;
     }
 }
 
-// How many ids; their order is free, so the lists are not shown.
-fn listed_ids(n: usize) {
-    show(0, b' ');
-    show(n as u64, b' ');
-    show(0, b'\n');
+// The line of a tally: the refusal or 0, how many ids, and every place of both lists.
+fn said_lists(number: u32, n: usize, ids: &[u16], counts: &[u32]) {
+    io::print_decimal(1, number as u64);
+    test_vectors::show_next(n as u64);
+    test_vectors::show_ids(ids);
+    show_counts(counts);
+    io::write_all(1, b"\n");
 }
 
+fn listed(q: Asked, cells: &[u16], ids: &mut [u16], counts: &mut [u32]) {
+    match chunk_tally::tally(cells, q.size, ids, counts) {
+        Listed::Ids(n) => said_lists(0, n, ids, counts),
+        Listed::Refused(k) => said_lists(k, 0, ids, counts),
+    }
+}
+
+// Room for the lists: each place holds 9.
 fn ids_room() -> [u16; 16]
     ensures { λ r. ⌜ 16 ≡ length r ⌝ }
 {
-    [0; 16]
+    [9; 16]
 }
 
 fn counts_room() -> [u32; 16]
     ensures { λ r. ⌜ 16 ≡ length r ⌝ }
 {
-    [0; 16]
+    [9; 16]
 }
 
 // The tally into lists of a and b places.
@@ -183,6 +199,19 @@ fn tallied(q: Asked, cells: &[u16]) {
     }
 }
 
+fn put_first(cells: &mut [u16], id: u16) {
+    if cells.len() == 0 {
+        return;
+    }
+    cells[0] = id;
+}
+
+// The tally of cells the first of which holds the id, so that they need not hold their ids upward.
+fn tallied_with(q: Asked, cells: &mut [u16]) {
+    put_first(cells, q.id);
+    tallied(q, cells);
+}
+
 fn edits(kind: u32, q: Asked, cells: &mut [u16]) {
     if kind == 5 {
         replaced(q, cells);
@@ -193,7 +222,7 @@ fn edits(kind: u32, q: Asked, cells: &mut [u16]) {
     } else if kind == 9 {
         bordered(q, cells);
     } else {
-        tallied(q, cells);
+        tallied_with(q, cells);
     }
 }
 

@@ -11,26 +11,12 @@ fn index(n: u32) -> usize {
     n as usize
 }
 
-// Writes a space and a number.
-fn show(n: u32) {
-    io::write_all(1, &[b' ']);
-    io::print_decimal(1, n as u64);
-}
-
-fn show_all(cells: &[u16]) {
-    let mut i = 0;
-    while i < cells.len() {
-        show(test_vectors::wide_id(cells[i]));
-        i += 1;
-    }
-}
-
 // The line of a chunk. Sizes up to 5 have at most 125 cells.
 fn answer(count: u32, cells: &[u16]) {
     io::print_decimal(1, count as u64);
-    show(test_vectors::checksum(cells));
+    test_vectors::show_next(test_vectors::checksum(cells) as u64);
     if cells.len() <= 125 {
-        show_all(cells);
+        test_vectors::show_ids(cells);
     }
     io::write_all(1, &[b'\n']);
 }

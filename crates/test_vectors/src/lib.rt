@@ -1,6 +1,6 @@
 // What programs share that replay a list of answers: reading the numbers of their input, lines of
 // decimal numbers separated by one byte, each taken modulo 2^32 so that no input is refused; cells to
-// work on, and their checksum.
+// work on, their checksum, and showing them.
 ghost use mathlib.Core.Path.{_≡_};
 ghost use lib.ListN.{length};
 
@@ -94,4 +94,19 @@ pub fn checksum(cells: &[u16]) -> u32 {
         i += 1;
     }
     sum
+}
+
+// Writes a blank and a number.
+pub fn show_next(n: u64) {
+    io::write_all(1, b" ");
+    io::print_decimal(1, n);
+}
+
+// Writes a blank and a number for each id.
+pub fn show_ids(ids: &[u16]) {
+    let mut i = 0;
+    while i < ids.len() {
+        show_next(wide_id(ids[i]) as u64);
+        i += 1;
+    }
 }

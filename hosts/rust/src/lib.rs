@@ -260,7 +260,8 @@ pub fn extract_border(cells: &[u16], size: usize, face: Face, border: &mut [u16]
     answered(unsafe { raw::pl_extract_border(c, n, size, face as u32, b, m) }).map(|_| ())
 }
 
-/// Lists each id present with its number of cells, and answers how many ids there are.
+/// Lists the nonzero ids present in ascending order, each beside the number of its cells, and answers how many ids
+/// there are. Places past them are left. Lists as long as the cells, or of 65,535 places, are never too short.
 pub fn tally(cells: &[u16], size: usize, ids: &mut [u16], counts: &mut [u32]) -> Result<usize, Refusal> {
     let (i, m, k, l) = (ids.as_mut_ptr(), ids.len(), counts.as_mut_ptr(), counts.len());
     answered(unsafe { raw::pl_tally(cells.as_ptr(), cells.len(), size, i, m, k, l) })

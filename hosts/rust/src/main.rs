@@ -289,6 +289,39 @@ fn worked_out() -> Result<(), String> {
     check(tablet.cells == [5; 8], "all taken back")
 }
 
+/// Eight cells, how many ids they hold, and the two lists after a tally.
+type Tally = ([u16; 8], usize, [u16; 5], [u32; 5]);
+
+/// Tallies worked out by hand: ids that do not stand in ascending order, one id, none. The lists hold 7 before, and
+/// keep it past the ids.
+const TALLIES: [Tally; 3] = [
+    (
+        [5, 65535, 5, 0, 3, 40000, 3, 5],
+        4,
+        [3, 5, 40000, 65535, 7],
+        [2, 3, 1, 1, 7],
+    ),
+    (
+        [0, 300, 0, 0, 300, 300, 0, 0],
+        1,
+        [300, 7, 7, 7, 7],
+        [3, 7, 7, 7, 7],
+    ),
+    ([0; 8], 0, [7; 5], [7; 5]),
+];
+
+fn tallies() -> Result<(), String> {
+    for (cells, n, ids, counts) in TALLIES {
+        let mut lists = ([7; 5], [7; 5]);
+        let answer = map::tally(&cells, 2, &mut lists.0, &mut lists.1);
+        check(
+            answer == Ok(n) && lists == (ids, counts),
+            &format!("a tally of {cells:?}: {answer:?}, {lists:?}"),
+        )?;
+    }
+    Ok(())
+}
+
 fn run() -> Result<usize, String> {
     let mut tablet = begin()?;
     let mut maps = vec![tablet.clone()];
@@ -319,6 +352,7 @@ fn run() -> Result<usize, String> {
     refusals(&maps[VISIT.len()])?;
     bare(&maps[VISIT.len()])?;
     worked_out()?;
+    tallies()?;
     Ok(stored.len())
 }
 

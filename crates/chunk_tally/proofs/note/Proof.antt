@@ -1,26 +1,17 @@
--- `chunk_tally::note` meets its contract. Assumes nothing.
-use mathlib.Core.Path.{sym, ap}
+-- `chunk_tally::note` meets its contract, by cases: air, an id without a cell, an id that is written. Assumes nothing.
+use mathlib.Core.Path.{ap}
 use native.Mathlib.Omega.{arith}
 use lib.ListN.{length}
 use borrow.Author.Needs.{needs}
-use lib.Seq.{sets}
-use Rattle.chunk_tally.specs.Spans.{list-no-id, list-no-cell, list-one}
+use Rattle.chunk_tally.specs.Spans.{list-no-id, list-no-cell, list-one, wrote-not, wrote-one}
 use Rattle.chunk_tally.proofs.note.Statement.{statement}
 use Rattle.chunk_tally.proofs.note.Tie as tie
 
 returns : tie.Need-returns
-returns c =
-    let a = c .before .args in
-    let e = list-no-id (a .id) (a .n) (a .id) (c .if1 .taken) in
-    let q = ap length e in
-    (omega arith, ap (sets (a .ids .now) (a .at)) (sym e), ap (sets (a .counts .now) (a .at)) (sym (list-no-id (a .id) (a .n) (a .n) (c .if1 .taken))))
+returns c = let a = c .before .args in wrote-not _ (a .id) (a .n) _ _ (λ x. list-no-id (a .id) (a .n) x (c .if1 .taken))
 
 returns-2 : tie.Need-returns-2
-returns-2 c =
-    let a = c .before .before .args in
-    let e = list-no-cell (a .id) (a .n) (a .id) (c .if2 .taken) in
-    let q = ap length e in
-    (omega arith, ap (sets (a .ids .now) (a .at)) (sym e), ap (sets (a .counts .now) (a .at)) (sym (list-no-cell (a .id) (a .n) (a .n) (c .if2 .taken))))
+returns-2 c = let a = c .before .before .args in wrote-not _ (a .id) (a .n) _ _ (λ x. list-no-cell (a .id) (a .n) x (c .if2 .taken))
 
 cast-ids : tie.Need-cast-ids
 cast-ids c = search needs
@@ -55,11 +46,7 @@ same-length-2 : tie.Need-same-length-2
 same-length-2 c = search needs
 
 returns-3 : tie.Need-returns-3
-returns-3 c =
-    let a = c .before .before .args in
-    let e = list-one (a .id) (a .n) (a .id) (c .before .if1 .left) (c .if2 .left) in
-    let q = ap length e in
-    (omega arith, ap (sets (a .ids .now) (a .at)) (sym e), ap (sets (a .counts .now) (a .at)) (sym (list-one (a .id) (a .n) (a .n) (c .before .if1 .left) (c .if2 .left))))
+returns-3 c = let a = c .before .before .args in wrote-one _ (a .id) (a .n) _ _ (c .before .if1 .left) (c .if2 .left)
 
 pub note-spec : {M : Type 1} → statement M
 note-spec =

@@ -4,28 +4,22 @@ use borrow.Author.Needs.{needs}
 use Rattle.test_chunk.proofs.bordered.Statement.{statement}
 use Rattle.test_chunk.proofs.bordered.Tie as tie
 
--- src/main.rt:139:22
 room-requires : tie.Need-room-requires
 room-requires c κs = search needs
 
--- src/main.rt:142:27
 array-borrow-prefix-border : tie.Need-array-borrow-prefix-border
 array-borrow-prefix-border c = search needs
 
--- src/main.rt:142:27
 slice-aggregate-extract : tie.Need-slice-aggregate-extract
 slice-aggregate-extract c =
     fits (c .before .before .before .before .args .q .b) 262144 (c .before .before .room .result) (c .before .before .room .ensures) (c .before .if1 .taken)
 
--- src/main.rt:142:9
 extract-requires : tie.Need-extract-requires
 extract-requires c κs = search needs
 
--- src/main.rt:138:1
 returns : tie.Need-returns
 returns c = search needs
 
--- src/main.rt:138:1
 returns-2 : tie.Need-returns-2
 returns-2 c = search needs
 

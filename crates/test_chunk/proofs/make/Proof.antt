@@ -4,85 +4,65 @@ use borrow.Author.Needs.{needs}
 use Rattle.test_chunk.proofs.make.Statement.{statement}
 use Rattle.test_chunk.proofs.make.Tie as tie
 
--- src/main.rt:213:21
 room-requires : tie.Need-room-requires
 room-requires c κs = search needs
 
--- src/main.rt:214:19
 element-copy-out-index : tie.Need-element-copy-out-index
 element-copy-out-index c = search needs
 
--- src/main.rt:214:9
 index-requires : tie.Need-index-requires
 index-requires c κs = search needs
 
--- src/main.rt:216:9
 returns : tie.Need-returns
 returns c = search needs
 
--- src/main.rt:219:17
 element-copy-out-low : tie.Need-element-copy-out-low
 element-copy-out-low c = search needs
 
--- src/main.rt:219:13
 low-requires : tie.Need-low-requires
 low-requires c κs = search needs
 
--- src/main.rt:220:21
 element-copy-out-index-2 : tie.Need-element-copy-out-index-2
 element-copy-out-index-2 c = search needs
 
--- src/main.rt:220:15
 index-requires-2 : tie.Need-index-requires-2
 index-requires-2 c κs = search needs
 
--- src/main.rt:221:16
 element-copy-out-t19 : tie.Need-element-copy-out-t19
 element-copy-out-t19 c = search needs
 
--- src/main.rt:222:18
 element-copy-out-index-3 : tie.Need-element-copy-out-index-3
 element-copy-out-index-3 c = search needs
 
--- src/main.rt:222:12
 index-requires-3 : tie.Need-index-requires-3
 index-requires-3 c κs = search needs
 
--- src/main.rt:223:18
 element-copy-out-index-4 : tie.Need-element-copy-out-index-4
 element-copy-out-index-4 c = search needs
 
--- src/main.rt:223:12
 index-requires-4 : tie.Need-index-requires-4
 index-requires-4 c κs = search needs
 
--- src/main.rt:224:18
 element-copy-out-index-5 : tie.Need-element-copy-out-index-5
 element-copy-out-index-5 c = search needs
 
--- src/main.rt:224:12
 index-requires-5 : tie.Need-index-requires-5
 index-requires-5 c κs = search needs
 
--- src/main.rt:226:10
 element-copy-out-call : tie.Need-element-copy-out-call
 element-copy-out-call c = search needs
 
--- src/main.rt:226:30
 array-borrow-prefix-cells : tie.Need-array-borrow-prefix-cells
 array-borrow-prefix-cells c = search needs
 
--- src/main.rt:226:30
 slice-aggregate-call : tie.Need-slice-aggregate-call
 slice-aggregate-call c =
     let at = c .before .before .before .before .before .before .before .before .before .before .before .before .before in
     fits (at .before .index .result) 262144 (at .before .before .before .room .result) (at .before .before .before .room .ensures) (at .if1 .left)
 
--- src/main.rt:226:5
 call-requires : tie.Need-call-requires
 call-requires c κs = search needs
 
--- src/main.rt:212:1
 returns-2 : tie.Need-returns-2
 returns-2 c = search needs
 

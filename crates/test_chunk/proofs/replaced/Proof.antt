@@ -4,32 +4,25 @@ use borrow.Author.Needs.{needs}
 use Rattle.test_chunk.proofs.replaced.Statement.{statement}
 use Rattle.test_chunk.proofs.replaced.Tie as tie
 
--- src/main.rt:97:18
 room-requires : tie.Need-room-requires
 room-requires c κs = search needs
 
--- src/main.rt:100:27
 array-share-prefix-blocks : tie.Need-array-share-prefix-blocks
 array-share-prefix-blocks c = search needs
 
--- src/main.rt:100:27
 slice-aggregate-replace : tie.Need-slice-aggregate-replace
 slice-aggregate-replace c =
     fits (c .before .before .before .before .before .args .q .a) 262144 (c .before .before .before .room .result) (c .before .before .before .room .ensures) (c .before .before .if1 .taken)
 
--- src/main.rt:100:9
 replace-requires : tie.Need-replace-requires
 replace-requires c κs = search needs
 
--- src/main.rt:96:1
 same-length : tie.Need-same-length
 same-length c = search needs
 
--- src/main.rt:96:1
 returns : tie.Need-returns
 returns c = search needs
 
--- src/main.rt:96:1
 returns-2 : tie.Need-returns-2
 returns-2 c = search needs
 

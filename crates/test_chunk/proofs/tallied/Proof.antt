@@ -4,45 +4,35 @@ use borrow.Author.Needs.{needs}
 use Rattle.test_chunk.proofs.tallied.Statement.{statement}
 use Rattle.test_chunk.proofs.tallied.Tie as tie
 
--- src/main.rt:173:19
 ids-room-requires : tie.Need-ids-room-requires
 ids-room-requires c κs = search needs
 
--- src/main.rt:174:22
 counts-room-requires : tie.Need-counts-room-requires
 counts-room-requires c κs = search needs
 
--- src/main.rt:179:30
 array-borrow-prefix-ids : tie.Need-array-borrow-prefix-ids
 array-borrow-prefix-ids c = search needs
 
--- src/main.rt:179:30
 slice-aggregate-listed : tie.Need-slice-aggregate-listed
 slice-aggregate-listed c =
     fits (c .before .before .before .before .before .before .args .q .a) 16 (c .before .before .before .before .ids-room .result) (c .before .before .before .before .ids-room .ensures) (c .before .before .if1 .taken)
 
--- src/main.rt:179:45
 array-borrow-prefix-counts : tie.Need-array-borrow-prefix-counts
 array-borrow-prefix-counts c = search needs
 
--- src/main.rt:179:45
 slice-aggregate-listed-2 : tie.Need-slice-aggregate-listed-2
 slice-aggregate-listed-2 c =
     fits (c .before .before .before .before .before .before .before .args .q .b) 16 (c .before .before .before .before .counts-room .result) (c .before .before .before .before .counts-room .ensures) (c .before .before .if2 .taken)
 
--- src/main.rt:179:13
 listed-requires : tie.Need-listed-requires
 listed-requires c κs = search needs
 
--- src/main.rt:172:1
 returns : tie.Need-returns
 returns c = search needs
 
--- src/main.rt:172:1
 returns-2 : tie.Need-returns-2
 returns-2 c = search needs
 
--- src/main.rt:172:1
 returns-3 : tie.Need-returns-3
 returns-3 c = search needs
 

@@ -6,26 +6,21 @@ use borrow.Author.Needs.{needs}
 use Rattle.test_ground.proofs.lay_in.Statement.{statement}
 use Rattle.test_ground.proofs.lay_in.Tie as tie
 
--- src/main.rt:88:21
 room-requires : tie.Need-room-requires
 room-requires c κs = search needs
 
--- src/main.rt:89:15
 array-borrow-prefix-cells : tie.Need-array-borrow-prefix-cells
 array-borrow-prefix-cells c = search needs
 
--- src/main.rt:89:15
 slice-aggregate-lay : tie.Need-slice-aggregate-lay
 slice-aggregate-lay c =
     let e = c .before .room .ensures in
     let h = c .before .before .pre in
     sym (length-take-le (c .before .before .args .n) (c .before .room .result) (omega arith))
 
--- src/main.rt:89:5
 lay-requires : tie.Need-lay-requires
 lay-requires c κs = search needs
 
--- src/main.rt:85:1
 returns : tie.Need-returns
 returns c = search needs
 

@@ -4,15 +4,12 @@ use Rattle.grid.specs.Grid.{square-most, cube-most}
 use Rattle.test_ground.proofs.volume.Statement.{statement}
 use Rattle.test_ground.proofs.volume.Tie as tie
 
--- src/main.rt:77:5
 mul-result : tie.Need-mul-result
 mul-result c = let k = square-most (c .args .size) (c .pre) in omega arith
 
--- src/main.rt:77:5
 mul-result-2 : tie.Need-mul-result-2
 mul-result-2 c = let k = cube-most (c .args .size) (c .pre) in omega arith
 
--- src/main.rt:73:1
 returns : tie.Need-returns
 returns c = cube-most (c .args .size) (c .pre)
 

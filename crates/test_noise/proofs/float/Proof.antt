@@ -10,17 +10,14 @@ use borrow.Author.Needs.{needs}
 use Rattle.test_noise.proofs.float.Statement.{statement}
 use Rattle.test_noise.proofs.float.Tie as tie
 
--- src/main.rt:13:41
 float-from-bits-result : tie.Need-float-from-bits-result
 float-from-bits-result c =
     let n = c .before .args .n in
     subst (λ (b : Bool). T (not b)) (sym (nanBits-above binary32 n ∙ le-ltb 2139095040 (n % 2147483648) (c .if1 .taken))) tt
 
--- src/main.rt:12:1
 returns : tie.Need-returns
 returns c = search needs
 
--- src/main.rt:12:1
 returns-2 : tie.Need-returns-2
 returns-2 c = search needs
 

@@ -11,35 +11,27 @@ Inv-loop cells sum₀ i₀ sum i = Unit {0}
 abbrev μ-loop : tie.MeasureT-loop
 μ-loop cells sum₀ i₀ sum i = length cells - i
 
--- src/main.rt:31:5
 loop-holds : tie.Need-loop-holds Inv-loop μ-loop
 loop-holds c = tt
 
--- src/main.rt:32:25
 mul-add-id : tie.Need-mul-add-id Inv-loop μ-loop
 mul-add-id c = omega arith
 
--- src/main.rt:32:25
 shared-slice-read-add-id : tie.Need-shared-slice-read-add-id Inv-loop μ-loop
 shared-slice-read-add-id c = omega arith
 
--- src/main.rt:32:9
 add-id-requires : tie.Need-add-id-requires Inv-loop μ-loop
 add-id-requires c κs = tt
 
--- src/main.rt:33:9
 add-i : tie.Need-add-i Inv-loop μ-loop
 add-i c = omega arith
 
--- src/main.rt:31:5
 loop-less : tie.Need-loop-less Inv-loop μ-loop
 loop-less c = omega arith
 
--- src/main.rt:31:5
 loop-again : tie.Need-loop-again Inv-loop μ-loop
 loop-again c = tt
 
--- src/main.rt:28:1
 returns : tie.Need-returns Inv-loop μ-loop
 returns c = tt
 

@@ -1,54 +1,49 @@
--- `test_ground::show_all` is safe and ends: each turn leaves fewer cells. Assumes nothing.
+-- `test_vectors::show_ids` is safe and ends: each turn leaves fewer ids. Assumes nothing.
 use Prim.Native.Nat.{_-_}
 use lib.ListN.{length}
 use native.Mathlib.Omega.{arith}
-use Rattle.test_ground.proofs.show_all.Statement.{statement}
-use Rattle.test_ground.proofs.show_all.Tie as tie
+use borrow.Author.Needs.{needs}
+use Rattle.test_vectors.proofs.show_ids.Statement.{statement}
+use Rattle.test_vectors.proofs.show_ids.Tie as tie
 
 abbrev Inv-loop : tie.InvT-loop
-Inv-loop cells i₀ i = Unit {0}
+Inv-loop ids i₀ i = Unit {0}
 
 abbrev μ-loop : tie.MeasureT-loop
-μ-loop cells i₀ i = length cells - i
+μ-loop ids i₀ i = length ids - i
 
--- src/main.rt:46:5
 loop-holds : tie.Need-loop-holds Inv-loop μ-loop
 loop-holds c = tt
 
--- src/main.rt:47:19
 mul-wide-id : tie.Need-mul-wide-id Inv-loop μ-loop
 mul-wide-id c = omega arith
 
--- src/main.rt:47:19
 shared-slice-read-wide-id : tie.Need-shared-slice-read-wide-id Inv-loop μ-loop
 shared-slice-read-wide-id c = omega arith
 
--- src/main.rt:47:14
 wide-id-requires : tie.Need-wide-id-requires Inv-loop μ-loop
 wide-id-requires c κs = tt
 
--- src/main.rt:47:9
-show-requires : tie.Need-show-requires Inv-loop μ-loop
-show-requires c κs = tt
+cast-show-next : tie.Need-cast-show-next Inv-loop μ-loop
+cast-show-next c = search needs
 
--- src/main.rt:48:9
+show-next-requires : tie.Need-show-next-requires Inv-loop μ-loop
+show-next-requires c κs = tt
+
 add-i : tie.Need-add-i Inv-loop μ-loop
 add-i c = omega arith
 
--- src/main.rt:46:5
 loop-less : tie.Need-loop-less Inv-loop μ-loop
 loop-less c = omega arith
 
--- src/main.rt:46:5
 loop-again : tie.Need-loop-again Inv-loop μ-loop
 loop-again c = tt
 
--- src/main.rt:44:1
 returns : tie.Need-returns Inv-loop μ-loop
 returns c = tt
 
-pub show-all-spec : {M : Type 1} → statement M
-show-all-spec =
+pub show-ids-spec : {M : Type 1} → statement M
+show-ids-spec =
     tie.close
     (tie.spec
     Inv-loop
@@ -57,7 +52,8 @@ show-all-spec =
     mul-wide-id
     shared-slice-read-wide-id
     wide-id-requires
-    show-requires
+    cast-show-next
+    show-next-requires
     add-i
     loop-less
     loop-again
