@@ -26,14 +26,14 @@ idCount (a ∷ c) v = same a v + idCount c v
 abbrev pub listIf : ℕ → ℕ → ℕ → List ℕ
 listIf id n x = pick (ltb 0 id && ltb 0 n) (x ∷ []) []
 
--- of the m ids from b on, x of each that is not 0 and of which f is not 0: upward, the last one behind all others
-unfoldable pub span : ℕ → ℕ → (ℕ → ℕ) → (ℕ → ℕ) → List ℕ
-span b zero f x = []
-span b (suc m) f x = span b m f x ++ listIf (b + m) (f (b + m)) (x (b + m))
+-- of the m ids from b on those that are not 0 and of which f is not 0: upward, the last one behind all others
+unfoldable pub span : ℕ → ℕ → (ℕ → ℕ) → List ℕ
+span b zero f = []
+span b (suc m) f = span b m f ++ listIf (b + m) (f (b + m)) (b + m)
 
 -- the ids that the cells hold, but air, upward
 unfoldable pub presentIds : List ℕ → List ℕ
-presentIds c = span 0 65536 (idCount c) (λ (v : ℕ). v)
+presentIds c = span 0 65536 (idCount c)
 
 -- the number of cells of each, in the ids' order
 unfoldable pub presentCounts : List ℕ → List ℕ
@@ -46,10 +46,10 @@ idTable base c = tab 8192 (λ (k : ℕ). idCount c (base + k))
 
 -- the first k ids of a table's window that are listed, and their numbers of cells
 abbrev pub seenIds : ℕ → ℕ → List ℕ → List ℕ
-seenIds base k t = span base k (λ (v : ℕ). getD t (v - base) 0) (λ (v : ℕ). v)
+seenIds base k t = span base k (λ (v : ℕ). getD t (v - base) 0)
 
 abbrev pub seenCounts : ℕ → ℕ → List ℕ → List ℕ
-seenCounts base k t = span base k (λ (v : ℕ). getD t (v - base) 0) (λ (v : ℕ). getD t (v - base) 0)
+seenCounts base k t = map (λ (v : ℕ). getD t (v - base) 0) (seenIds base k t)
 
 unfoldable pub windowIds : ℕ → List ℕ → List ℕ
 windowIds base t = seenIds base 8192 t

@@ -65,7 +65,7 @@ every zero f v p h s = absurd (omega arith)
 every (suc m) f v p h s = by (λ k. every m f v p k s) (ltb v m) refl
   where
     by : (v < m → Place (idsTo m f) (length (idsTo m f)) v) → (t : Bool) → ltb v m ≡ t
-        → Place (span 0 m f (λ (w : ℕ). w) ++ listIf (0 + m) (f (0 + m)) (0 + m)) (length (span 0 m f (λ (w : ℕ). w) ++ listIf (0 + m) (f (0 + m)) (0 + m))) v
+        → Place (idsTo m f ++ listIf (0 + m) (f (0 + m)) (0 + m)) (length (idsTo m f ++ listIf (0 + m) (f (0 + m)) (0 + m))) v
     by below true e =
         let q = below (ltb-true v m e) in
         let l = length-append (idsTo m f) (listIf (0 + m) (f (0 + m)) (0 + m)) in

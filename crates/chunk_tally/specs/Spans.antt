@@ -16,35 +16,34 @@ use Rattle.chunk_tally.specs.Ids.{listIf, span, idCount, idTable, table-
 
 -- the ids below m that are listed, and f of each
 abbrev pub idsTo : ℕ → (ℕ → ℕ) → List ℕ
-idsTo m f = span 0 m f (λ (v : ℕ). v)
+idsTo m f = span 0 m f
 
 abbrev pub countsTo : ℕ → (ℕ → ℕ) → List ℕ
-countsTo m f = span 0 m f f
+countsTo m f = map f (idsTo m f)
 
-pub span-more : (b m : ℕ) (f x : ℕ → ℕ) → span b (m + 1) f x ≡ span b m f x ++ listIf (b + m) (f (b + m)) (x (b + m))
+span-more : (b m : ℕ) (f : ℕ → ℕ) → span b (m + 1) f ≡ span b m f ++ listIf (b + m) (f (b + m)) (b + m)
 unfolding span
-span-more b m f x = ap (λ (k : ℕ). span b k f x) (add-one m)
+span-more b m f = ap (λ (k : ℕ). span b k f) (add-one m)
 
-pub span-none : (b : ℕ) (f x : ℕ → ℕ) → span b 0 f x ≡ []
+pub span-none : (b : ℕ) (f : ℕ → ℕ) → span b 0 f ≡ []
 unfolding span
-span-none b f x = refl
+span-none b f = refl
 
-pub span-same : (b m : ℕ) (f g x y : ℕ → ℕ) → ((v : ℕ) → b ≤ v → v < b + m → f v ≡ g v) → ((v : ℕ) → b ≤ v → v < b + m → x v ≡ y v)
-    → span b m f x ≡ span b m g y
+span-same : (b m : ℕ) (f g : ℕ → ℕ) → ((v : ℕ) → b ≤ v → v < b + m → f v ≡ g v) → span b m f ≡ span b m g
 unfolding span
-span-same b zero f g x y p q = refl
-span-same b (suc m) f g x y p q =
-    ap₂ (λ (l : List ℕ). λ (r : List ℕ). l ++ r)
-    (span-same b m f g x y (λ v h k. p v h (omega arith)) (λ v h k. q v h (omega arith)))
-    (ap₂ (λ (n : ℕ). λ (t : ℕ). listIf (b + m) n t) (p (b + m) (omega arith) (omega arith)) (q (b + m) (omega arith) (omega arith)))
+span-same b zero f g p = refl
+span-same b (suc m) f g p =
+    ap₂ (λ (l : List ℕ). λ (n : ℕ). l ++ listIf (b + m) n (b + m))
+    (span-same b m f g (λ v h k. p v h (omega arith)))
+    (p (b + m) (omega arith) (omega arith))
 
-pub span-add : (b m : ℕ) (f x : ℕ → ℕ) → span 0 (b + m) f x ≡ span 0 b f x ++ span b m f x
+span-add : (b m : ℕ) (f : ℕ → ℕ) → span 0 (b + m) f ≡ span 0 b f ++ span b m f
 unfolding span
-span-add b zero f x = ap (λ (k : ℕ). span 0 k f x) (add-zero b) ∙ sym (append-nil (span 0 b f x))
-span-add b (suc m) f x =
-    ap (λ (k : ℕ). span 0 k f x) (add-suc b m)
-    ∙ ap₂ (λ (l : List ℕ). λ (v : ℕ). l ++ listIf v (f v) (x v)) (span-add b m f x) (zero-add (b + m))
-    ∙ append-assoc (span 0 b f x) (span b m f x) (listIf (b + m) (f (b + m)) (x (b + m)))
+span-add b zero f = ap (λ (k : ℕ). span 0 k f) (add-zero b) ∙ sym (append-nil (span 0 b f))
+span-add b (suc m) f =
+    ap (λ (k : ℕ). span 0 k f) (add-suc b m)
+    ∙ ap₂ (λ (l : List ℕ). λ (v : ℕ). l ++ listIf v (f v) v) (span-add b m f) (zero-add (b + m))
+    ∙ append-assoc (span 0 b f) (span b m f) (listIf (b + m) (f (b + m)) (b + m))
 
 map-list : (id n : ℕ) (x : ℕ → ℕ) → map x (listIf id n id) ≡ listIf id n (x id)
 map-list id n x = at (ltb 0 id && ltb 0 n)
@@ -53,13 +52,18 @@ map-list id n x = at (ltb 0 id && ltb 0 n)
     at true = refl
     at false = refl
 
--- x of each id that is listed
-pub map-span : (b m : ℕ) (f x : ℕ → ℕ) → map x (span b m f (λ (v : ℕ). v)) ≡ span b m f x
+-- of ids that are listed, by what holds of each
+map-same : (b m : ℕ) (f x y : ℕ → ℕ) → ((v : ℕ) → b ≤ v → v < b + m → x v ≡ y v) → map x (span b m f) ≡ map y (span b m f)
 unfolding span
-map-span b zero f x = refl
-map-span b (suc m) f x =
-    map-append x (span b m f (λ (v : ℕ). v)) (listIf (b + m) (f (b + m)) (b + m))
-    ∙ ap₂ (λ (l : List ℕ). λ (r : List ℕ). l ++ r) (map-span b m f x) (map-list (b + m) (f (b + m)) x)
+map-same b zero f x y p = refl
+map-same b (suc m) f x y p =
+    map-append x (span b m f) (listIf (b + m) (f (b + m)) (b + m))
+    ∙ ap₂ (λ (l : List ℕ). λ (r : List ℕ). l ++ r)
+    (map-same b m f x y (λ v h k. p v h (omega arith)))
+    (map-list (b + m) (f (b + m)) x
+    ∙ ap (λ (t : ℕ). listIf (b + m) (f (b + m)) t) (p (b + m) (omega arith) (omega arith))
+    ∙ sym (map-list (b + m) (f (b + m)) y))
+    ∙ sym (map-append y (span b m f) (listIf (b + m) (f (b + m)) (b + m)))
 
 pub list-most : (id n x : ℕ) → length (listIf id n x) ≤ 1
 list-most id n x = at (ltb 0 id && ltb 0 n)
@@ -68,23 +72,23 @@ list-most id n x = at (ltb 0 id && ltb 0 n)
     at true = omega arith
     at false = omega arith
 
-pub span-most : (b m : ℕ) (f x : ℕ → ℕ) → length (span b m f x) ≤ m
+pub span-most : (b m : ℕ) (f : ℕ → ℕ) → length (span b m f) ≤ m
 unfolding span
-span-most b zero f x = omega arith
-span-most b (suc m) f x =
-    let h = span-most b m f x in
-    let k = list-most (b + m) (f (b + m)) (x (b + m)) in
-    let l = length-append (span b m f x) (listIf (b + m) (f (b + m)) (x (b + m))) in
+span-most b zero f = omega arith
+span-most b (suc m) f =
+    let h = span-most b m f in
+    let k = list-most (b + m) (f (b + m)) (b + m) in
+    let l = length-append (span b m f) (listIf (b + m) (f (b + m)) (b + m)) in
     omega arith
 
 -- a part of the ids lists no more than all
-pub span-up : (b m n : ℕ) (f x : ℕ → ℕ) → length (span b m f x) ≤ length (span b (m + n) f x)
+span-up : (b m n : ℕ) (f : ℕ → ℕ) → length (span b m f) ≤ length (span b (m + n) f)
 unfolding span
-span-up b m zero f x = let e = ap (λ (k : ℕ). length (span b k f x)) (add-zero m) in omega arith
-span-up b m (suc n) f x =
-    let h = span-up b m n f x in
-    let e = ap (λ (k : ℕ). length (span b k f x)) (add-suc m n) in
-    let l = length-append (span b (m + n) f x) (listIf (b + (m + n)) (f (b + (m + n))) (x (b + (m + n)))) in
+span-up b m zero f = let e = ap (λ (k : ℕ). length (span b k f)) (add-zero m) in omega arith
+span-up b m (suc n) f =
+    let h = span-up b m n f in
+    let e = ap (λ (k : ℕ). length (span b k f)) (add-suc m n) in
+    let l = length-append (span b (m + n) f) (listIf (b + (m + n)) (f (b + (m + n))) (b + (m + n))) in
     omega arith
 
 -- ---- the window's table says what the cells say
@@ -93,13 +97,14 @@ window-at : (base : ℕ) (c : List ℕ) (v : ℕ) → base ≤ v → v < base + 
 window-at base c v h k =
     table-at base c (v - base) (omega arith) ∙ ap (idCount c) (let e : base + (v - base) ≡ v = omega arith in e)
 
-pub window-ids : (base : ℕ) (c : List ℕ) → windowIds base (idTable base c) ≡ span base 8192 (idCount c) (λ (v : ℕ). v)
+window-ids : (base : ℕ) (c : List ℕ) → windowIds base (idTable base c) ≡ span base 8192 (idCount c)
 unfolding windowIds
-window-ids base c = span-same base 8192 _ (idCount c) (λ (v : ℕ). v) (λ (v : ℕ). v) (window-at base c) (λ v h k. refl)
+window-ids base c = span-same base 8192 _ (idCount c) (window-at base c)
 
-pub window-counts : (base : ℕ) (c : List ℕ) → windowCounts base (idTable base c) ≡ span base 8192 (idCount c) (idCount c)
-unfolding windowCounts
-window-counts base c = span-same base 8192 _ (idCount c) _ (idCount c) (window-at base c) (window-at base c)
+window-counts : (base : ℕ) (c : List ℕ) → windowCounts base (idTable base c) ≡ map (idCount c) (span base 8192 (idCount c))
+unfolding windowIds windowCounts
+window-counts base c =
+    map-same base 8192 _ _ (idCount c) (window-at base c) ∙ ap (map (idCount c)) (span-same base 8192 _ (idCount c) (window-at base c))
 
 -- ---- ids and counts written into two lists
 
@@ -203,12 +208,15 @@ wrote-one at id n ids counts p q =
 pub ids-step : (b k : ℕ) (t : List ℕ) → seenIds b k t ++ listIf (b + k) (getD t k 0) (b + k) ≡ seenIds b (k + 1) t
 ids-step b k t =
     ap (λ (j : ℕ). seenIds b k t ++ listIf (b + k) (getD t j 0) (b + k)) (let e : k ≡ b + k - b = omega arith in e)
-    ∙ sym (span-more b k (λ (v : ℕ). getD t (v - b) 0) (λ (v : ℕ). v))
+    ∙ sym (span-more b k (λ (v : ℕ). getD t (v - b) 0))
 
 pub counts-step : (b k : ℕ) (t : List ℕ) → seenCounts b k t ++ listIf (b + k) (getD t k 0) (getD t k 0) ≡ seenCounts b (k + 1) t
 counts-step b k t =
-    ap (λ (j : ℕ). seenCounts b k t ++ listIf (b + k) (getD t j 0) (getD t j 0)) (let e : k ≡ b + k - b = omega arith in e)
-    ∙ sym (span-more b k (λ (v : ℕ). getD t (v - b) 0) (λ (v : ℕ). getD t (v - b) 0))
+    let f : ℕ → ℕ = λ (v : ℕ). getD t (v - b) 0 in
+    ap (λ (j : ℕ). seenCounts b k t ++ listIf (b + k) (getD t k 0) (getD t j 0)) (let e : k ≡ b + k - b = omega arith in e)
+    ∙ ap (λ (r : List ℕ). seenCounts b k t ++ r) (sym (map-list (b + k) (getD t k 0) f))
+    ∙ sym (map-append f (seenIds b k t) (listIf (b + k) (getD t k 0) (b + k)))
+    ∙ ap (map f) (ids-step b k t)
 
 pub seen-length : (b k : ℕ) (t : List ℕ) → length (seenIds b k t) + length (listIf (b + k) (getD t k 0) (b + k)) ≡ length (seenIds b (k + 1) t)
 seen-length b k t = sym (length-append (seenIds b k t) (listIf (b + k) (getD t k 0) (b + k))) ∙ ap length (ids-step b k t)
@@ -216,29 +224,30 @@ seen-length b k t = sym (length-append (seenIds b k t) (listIf (b + k) (getD t k
 pub seen-room : (b k : ℕ) (t : List ℕ) → k < 8192 → length (seenIds b (k + 1) t) ≤ length (windowIds b t)
 unfolding windowIds
 seen-room b k t h =
-    let u = span-up b (k + 1) (8192 - (k + 1)) (λ (v : ℕ). getD t (v - b) 0) (λ (v : ℕ). v) in
+    let u = span-up b (k + 1) (8192 - (k + 1)) (λ (v : ℕ). getD t (v - b) 0) in
     let e = ap (λ (j : ℕ). length (seenIds b j t)) (let q : k + 1 + (8192 - (k + 1)) ≡ 8192 = omega arith in q) in
     omega arith
 
 pub window-most : (b : ℕ) (t : List ℕ) → length (windowIds b t) ≤ 8192
 unfolding windowIds
-window-most b t = span-most b 8192 (λ (v : ℕ). getD t (v - b) 0) (λ (v : ℕ). v)
+window-most b t = span-most b 8192 (λ (v : ℕ). getD t (v - b) 0)
 
 -- ---- window by window
 
-pub ids-window : (w : ℕ) (c t : List ℕ) → t ≡ idTable (w * 8192) c
+ids-window : (w : ℕ) (c t : List ℕ) → t ≡ idTable (w * 8192) c
     → idsTo (w * 8192) (idCount c) ++ windowIds (w * 8192) t ≡ idsTo ((w + 1) * 8192) (idCount c)
 ids-window w c t e =
     ap (λ (r : List ℕ). idsTo (w * 8192) (idCount c) ++ r) (ap (windowIds (w * 8192)) e ∙ window-ids (w * 8192) c)
-    ∙ sym (span-add (w * 8192) 8192 (idCount c) (λ (v : ℕ). v))
+    ∙ sym (span-add (w * 8192) 8192 (idCount c))
     ∙ ap (λ (k : ℕ). idsTo k (idCount c)) (let q : w * 8192 + 8192 ≡ (w + 1) * 8192 = omega arith in q)
 
-pub counts-window : (w : ℕ) (c t : List ℕ) → t ≡ idTable (w * 8192) c
+counts-window : (w : ℕ) (c t : List ℕ) → t ≡ idTable (w * 8192) c
     → countsTo (w * 8192) (idCount c) ++ windowCounts (w * 8192) t ≡ countsTo ((w + 1) * 8192) (idCount c)
 counts-window w c t e =
     ap (λ (r : List ℕ). countsTo (w * 8192) (idCount c) ++ r) (ap (windowCounts (w * 8192)) e ∙ window-counts (w * 8192) c)
-    ∙ sym (span-add (w * 8192) 8192 (idCount c) (idCount c))
-    ∙ ap (λ (k : ℕ). countsTo k (idCount c)) (let q : w * 8192 + 8192 ≡ (w + 1) * 8192 = omega arith in q)
+    ∙ sym (map-append (idCount c) (idsTo (w * 8192) (idCount c)) (span (w * 8192) 8192 (idCount c)))
+    ∙ ap (map (idCount c))
+    (ap (λ (r : List ℕ). idsTo (w * 8192) (idCount c) ++ r) (sym (ap (windowIds (w * 8192)) e ∙ window-ids (w * 8192) c)) ∙ ids-window w c t e)
 
 pub window-length : (w : ℕ) (c t : List ℕ) → t ≡ idTable (w * 8192) c
     → length (idsTo (w * 8192) (idCount c)) + length (windowIds (w * 8192) t) ≡ length (idsTo ((w + 1) * 8192) (idCount c))
@@ -247,7 +256,7 @@ window-length w c t e = sym (length-append (idsTo (w * 8192) (idCount c)) (windo
 pub prefix-most : (w : ℕ) (c : List ℕ) → w ≤ 8 → length (idsTo (w * 8192) (idCount c)) ≤ length (presentIds c)
 unfolding presentIds
 prefix-most w c h =
-    let u = span-up 0 (w * 8192) (65536 - w * 8192) (idCount c) (λ (v : ℕ). v) in
+    let u = span-up 0 (w * 8192) (65536 - w * 8192) (idCount c) in
     let e = ap (λ (k : ℕ). length (idsTo k (idCount c))) (let q : w * 8192 + (65536 - w * 8192) ≡ 65536 = omega arith in q) in
     omega arith
 
@@ -264,5 +273,5 @@ unfolding presentIds
 ids-all w c e = ap (λ (k : ℕ). idsTo k (idCount c)) e
 
 pub counts-all : (w : ℕ) (c : List ℕ) → w * 8192 ≡ 65536 → countsTo (w * 8192) (idCount c) ≡ presentCounts c
-unfolding presentIds presentCounts
-counts-all w c e = ap (λ (k : ℕ). countsTo k (idCount c)) e ∙ sym (map-span 0 65536 (idCount c) (idCount c))
+unfolding presentCounts
+counts-all w c e = ap (map (idCount c)) (ids-all w c e)

@@ -1,21 +1,21 @@
--- `chunk_tally::count_ids` meets its contract. Assumes nothing.
+-- `chunk_tally::count_ids` meets its contract. The loop's invariant: n ids of the first w windows are listed. Assumes nothing.
 use mathlib.Core.Path.{_≡_, sym, ap, _∙_}
-use Prim.Native.Nat.{ℕ, _-_, _*_, _≤_}
+use Prim.Native.Nat.{_-_, _*_, _≤_}
 use native.Mathlib.Omega.{arith}
 use lib.ListN.{length}
-use Rattle.chunk_tally.specs.Ids.{span, idCount, presentIds, table-length}
-use Rattle.chunk_tally.specs.Spans.{span-none, span-most, window-length, window-most}
+use Rattle.chunk_tally.specs.Ids.{idCount, table-length}
+use Rattle.chunk_tally.specs.Spans.{idsTo, span-none, span-most, window-length, window-most, ids-all}
 use Rattle.chunk_tally.proofs.count_ids.Statement.{statement}
 use Rattle.chunk_tally.proofs.count_ids.Tie as tie
 
 abbrev Inv-loop : tie.InvT-loop
-Inv-loop cells table₀ n₀ w₀ table n w = (w ≤ 8) × (n ≡ length (span 0 (w * 8192) (idCount cells) (λ (v : ℕ). v))) × (length table ≡ 8192)
+Inv-loop cells table₀ n₀ w₀ table n w = (w ≤ 8) × (n ≡ length (idsTo (w * 8192) (idCount cells))) × (length table ≡ 8192)
 
 abbrev μ-loop : tie.MeasureT-loop
 μ-loop cells table₀ n₀ w₀ table n w = 8 - w
 
 loop-holds : tie.Need-loop-holds Inv-loop μ-loop
-loop-holds c = (omega arith, ap length (sym (span-none _ _ _)), c .before .before .pre .0)
+loop-holds c = (omega arith, ap length (sym (span-none _ _)), c .before .before .pre .0)
 
 mul-count-window : tie.Need-mul-count-window Inv-loop μ-loop
 mul-count-window c = let i = c .before .loop .inv .0 in omega arith
@@ -37,7 +37,7 @@ add-n c =
     let e = c .window-len .ensures in
     let m = window-most (l .w * 8192) (c .before .before .before .before .count-window .last .1 .1 .0) in
     let s =
-    span-most 0 (l .w * 8192) (idCount (c .before .before .before .before .before .before .before .before .before .before .args .cells .now)) (λ (v : ℕ). v) in
+    span-most 0 (l .w * 8192) (idCount (c .before .before .before .before .before .before .before .before .before .before .args .cells .now)) in
     let i = l .inv .1 in
     let j = l .inv .0 in
     omega arith
@@ -62,13 +62,12 @@ same-length : tie.Need-same-length Inv-loop μ-loop
 same-length c = c .before .loop .inv .2 ∙ sym (c .before .before .before .before .pre .0)
 
 returns : tie.Need-returns Inv-loop μ-loop
-unfolding presentIds
 returns c =
     let l = c .before .loop in
     let i = l .inv .0 in
     let t = c .loop-test .left in
     let q : l .w * 8192 ≡ 65536 = omega arith in
-    (l .inv .1 ∙ ap (λ (k : ℕ). length (span 0 k (idCount (c .before .before .before .before .args .cells .now)) (λ (v : ℕ). v))) q, l .inv .2)
+    (l .inv .1 ∙ ap length (ids-all (l .w) (c .before .before .before .before .args .cells .now) q), l .inv .2)
 
 pub count-ids-spec : {M : Type 1} → statement M
 count-ids-spec =

@@ -1,7 +1,8 @@
 -- `chunk_tally::list_ids` meets its contract. The loop's invariant: the ids of the first w windows are written. Assumes nothing.
 use mathlib.Core.Path.{_≡_, sym, ap, _∙_}
-use Prim.Native.Nat.{ℕ, _+_, _-_, _*_, _≤_}
+use Prim.Native.Nat.{_+_, _-_, _*_, _≤_}
 use native.Mathlib.Omega.{arith}
+use mathlib.Core.List.{map}
 use lib.ListN.{length}
 use Rattle.chunk_tally.specs.Ids.{idCount, table-length}
 use Rattle.chunk_tally.specs.Spans.{Wrote, wrote-none, wrote-as, wrote-window, ids-long, counts-long, idsTo, countsTo, span-none}
@@ -20,7 +21,7 @@ loop-holds : tie.Need-loop-holds Inv-loop μ-loop
 loop-holds c =
     let s = c .before .before .before .before in
     let f = idCount (s .args .cells .now) in
-    (omega arith, wrote-as (sym (span-none 0 f (λ (v : ℕ). v))) (sym (span-none 0 f f)) wrote-none, s .pre .0)
+    (omega arith, wrote-as (sym (span-none 0 f)) (ap (map f) (sym (span-none 0 f))) wrote-none, s .pre .0)
 
 mul-count-window : tie.Need-mul-count-window Inv-loop μ-loop
 mul-count-window c = let i = c .before .loop .inv .0 in omega arith

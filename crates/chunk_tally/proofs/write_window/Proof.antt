@@ -2,6 +2,7 @@
 use mathlib.Core.Path.{_≡_, sym, ap}
 use Prim.Native.Nat.{ℕ, _-_, _≤_, _<_}
 use native.Mathlib.Omega.{arith}
+use mathlib.Core.List.{map}
 use lib.ListN.{length, getD}
 use Rattle.chunk_tally.specs.Ids.{seenIds, seenCounts, windowIds, windowCounts}
 use Rattle.chunk_tally.specs.Spans.{Wrote, wrote-none, wrote-more, wrote-as, ids-long, counts-long, span-none, ids-step, counts-step, seen-length, seen-room}
@@ -19,7 +20,7 @@ loop-holds : tie.Need-loop-holds Inv-loop μ-loop
 loop-holds c =
     let a = c .before .before .before .args in
     let f : ℕ → ℕ = λ (v : ℕ). getD (a .table .now) (v - a .base) 0 in
-    (omega arith, wrote-as (sym (span-none (a .base) f (λ (v : ℕ). v))) (sym (span-none (a .base) f f)) wrote-none)
+    (omega arith, wrote-as (sym (span-none (a .base) f)) (ap (map f) (sym (span-none (a .base) f))) wrote-none)
 
 add-note : tie.Need-add-note Inv-loop μ-loop
 add-note c = let h = c .before .before .before .before .before .before .before .pre .1 in let i = c .before .before .before .loop .inv .0 in omega arith
