@@ -89,10 +89,11 @@ typedef struct pl_session {
     size_t active;
 } pl_session;
 
-/* The answer of a session's edit or undo. line is 0; written is the number of groups that a batch wrote, else 0.
- * previous is the id that the cell of a set held before, else 0. altered is how many cells hold another id than before
- * the call, whatever cells were lent: a cell that a batch sets and sets back is not among them, and one that it sets
- * twice is there once. A refused call, and one without a line, tells 0 for both. */
+/* The answer of a session's edit or undo. line is 0; written is the number of a batch's groups that were inside, else
+ * 0. previous is the id that the cell of a set held before, else 0. altered is how many cells hold another id than
+ * before the call, whatever cells were lent: a cell that a batch sets and sets back is not among them, and one that it
+ * sets twice is there once. An edit that altered none tells the other two all the same. A refused call, a column
+ * outside and a batch with no group inside tell 0 for all three. */
 typedef struct pl_reply {
     uint32_t number;
     size_t line;
@@ -142,7 +143,12 @@ typedef char pl_start_layout[sizeof(pl_start) == 88 && offsetof(pl_start, number
 
 /* ---- Sessions: edits are kept in a journal, lent with the cells. The cell (x, y, z) is element x + size * (y +
  * size * z). A journal buffer has at most 32,768 bytes; an accepted call with a line writes behind the used bytes
- * alone. */
+ * alone.
+ *
+ * A set, column or batch after which every cell is the same is idle: it is accepted with its usual numbers, changes
+ * nothing, has no line and does not become active, also where 256 edits are active or the journal is full. The call as
+ * a whole decides: a batch that sets a cell and sets it back is idle, and so is a column of height 0. Older journals
+ * may have lines of idle edits: they still open, and there these edits are active. */
 
 /* Lays the ground into cells (size * size * size long) and writes the first line to the journal's start. No edit is
  * active; lines is 1. Refused: 9, 1 to 6, 24 (the first line does not fit). */
@@ -150,25 +156,28 @@ pl_start pl_session_fresh(pl_config config, pl_pos pos, uint16_t *cells, size_t 
                           size_t journal_len);
 
 /* Sets one cell, appends a line, and tells the id that the cell held before and how many cells it altered, 0 or 1.
- * Refused: 21 (also where the edit would move the count off its limits), 7, 24. */
+ * Where the cell holds this id already it tells the id and 0, changes nothing and has no line. Refused: 21 (also where
+ * the edit would move the count off its limits), 7, 24 (not where it is idle). */
 pl_reply pl_session_set(pl_session *session, uint16_t *cells, size_t cells_len, uint8_t *journal,
                         size_t journal_len, size_t x, size_t y, size_t z, uint16_t id);
 
 /* Fills a column from y 0 up to a height, which is clipped to the size, appends a line, and tells how many cells it
- * altered. With x or z outside it is accepted, changes nothing and has no line. Refused: 21 (also where the edit would
- * move the count off its limits), 24. */
+ * altered. Where that is 0, as with height 0 or with x or z outside, it is accepted, changes nothing and has no line.
+ * Refused: 21 (also where the edit would move the count off its limits), 24 (not where it is idle). */
 pl_reply pl_session_fill_column(pl_session *session, uint16_t *cells, size_t cells_len, uint8_t *journal,
                                 size_t journal_len, size_t x, size_t z, size_t height, uint16_t id);
 
 /* Sets the cells of groups x, y, z, id in their order, appends one line for all, and tells how many groups were inside
  * and how many cells it altered. edits_len counts numbers, four to a group; one to three left over are ignored, an id
- * counts modulo 65,536, a group outside is skipped. Where none is inside it is accepted, changes nothing and has no
- * line. Refused: 21 (also where the edit would move the count off its limits), 8, 24. */
+ * counts modulo 65,536, a group outside is skipped. Where it altered none, or no group is inside, it is accepted,
+ * changes nothing and has no line. Refused: 21 (also where the edit would move the count off its limits), 8, 24 (not
+ * where it is idle). */
 pl_reply pl_session_set_blocks(pl_session *session, uint16_t *cells, size_t cells_len, uint8_t *journal,
                                size_t journal_len, const uint32_t *edits, size_t edits_len);
 
 /* Takes the last active edit back: the cells are laid anew without it, and a line is appended. It tells how many cells
- * it altered. Refused: 21, 22, 23, 24 (fewer than 2 bytes left). */
+ * it altered. In a map that only these calls write that is never 0, but for an idle edit that an older journal has a
+ * line of: its undo is accepted and alters none. Refused: 21, 22, 23, 24 (fewer than 2 bytes left). */
 pl_reply pl_session_undo(pl_session *session, uint16_t *cells, size_t cells_len, uint8_t *journal,
                          size_t journal_len);
 

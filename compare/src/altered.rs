@@ -3,7 +3,7 @@
 use crate::bare::non_air;
 use crate::chunk::id;
 use crate::journals;
-use crate::model::{Call, Lent, Reply};
+use crate::model::{edit_of, Call, Lent, Reply};
 use crate::report::Report;
 use crate::rng::Rng;
 use crate::session::{called, session, Calls};
@@ -15,7 +15,7 @@ const ON_ONE: u64 = 12;
 /// Every kind of reply, each to be met in a run.
 const KINDS: [&str; 14] = [
     "refused",
-    "without a line",
+    "nothing inside",
     "set: the id that was there",
     "set: another id",
     "column: no cell",
@@ -31,10 +31,10 @@ const KINDS: [&str; 14] = [
 ];
 
 /// The kind of a reply, by how many cells were altered. `size` is the chunk's.
-fn kind(call: &Call, reply: &Reply, line: bool, size: usize) -> &'static str {
+fn kind(call: &Call, reply: &Reply, size: usize) -> &'static str {
     match (call, reply.altered) {
         _ if reply.number != 0 => "refused",
-        _ if !line => "without a line",
+        (Call::Column { .. } | Call::Batch(_), _) if edit_of(size, call).is_none() => "nothing inside",
         (Call::Set(..), 0) => "set: the id that was there",
         (Call::Set(..), _) => "set: another id",
         (Call::Column { .. }, 0) => "column: no cell",
@@ -59,16 +59,20 @@ pub fn one_off(cells: &[u16], only: Option<usize>) -> Vec<u16> {
     cells.iter().enumerate().map(off).collect()
 }
 
-/// The session with its own cells, or with others; the count is the record's, or that of the cells.
-fn lend(rng: &mut Rng, own: &Lent) -> Lent {
+/// The last of a session's states with its own cells, or with others, also those of an earlier state; the count is the
+/// record's, or that of the cells.
+pub fn lend(rng: &mut Rng, states: &[Lent]) -> Lent {
+    let own = states.last().expect("a session has a state");
     let mut lent = own.clone();
     let cells = lent.cells.len() as u64;
-    match rng.below(6) {
+    match rng.below(7) {
         0 => lent.cells.iter_mut().for_each(|c| *c = id(rng)),
         1 => lent.cells.fill(id(rng)),
         2 => lent.cells = one_off(&own.cells, None),
         3 => lent.cells = one_off(&own.cells, Some(rng.below(cells) as usize)),
         4 => lent.cells.rotate_left(rng.below(cells) as usize),
+        // Of the state before an edit: then an undo finds its cells there.
+        5 => lent.cells = states[rng.below(states.len() as u64) as usize].cells.clone(),
         _ => {}
     }
     if rng.once_in(2) {
@@ -117,13 +121,11 @@ pub fn compare(report: &mut Report, calls: &impl Calls, many: u64) {
         let Some(states) = session(&mut Report::quiet(), &mut rng, calls, turns) else {
             continue;
         };
-        let own = &states[states.len() - 1];
         for _ in 0..ON_ONE {
-            let lent = lend(&mut rng, own);
+            let lent = lend(&mut rng, &states);
             let call = press(&mut rng, &lent);
-            let (left, reply) = called(report, calls, &lent, &call);
-            let line = left.record.used > lent.record.used;
-            *met.entry(kind(&call, &reply, line, lent.record.site.chunk_size))
+            let (_, reply) = called(report, calls, &lent, &call);
+            *met.entry(kind(&call, &reply, lent.record.site.chunk_size))
                 .or_insert(0) += 1;
             done += 1;
         }

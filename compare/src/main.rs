@@ -1,7 +1,7 @@
 //! Runs every comparison, or only that of the program, or writes the lists for the gate.
 //! Exit status 0: no difference; 1: a difference.
 use compare::report::Report;
-use compare::{chunk, ground, noise, program, session, stack, tally, vectors};
+use compare::{chunk, ground, idle, noise, program, session, stack, tally, vectors};
 use std::process::ExitCode;
 
 fn main() -> ExitCode {
@@ -15,6 +15,7 @@ fn main() -> ExitCode {
             chunk::run(&mut report);
             tally::run(&mut report);
             session::run(&mut report);
+            idle::run(&mut report);
             stack::run(&mut report);
             program::run(&mut report);
             vectors::check(&mut report);

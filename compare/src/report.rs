@@ -9,6 +9,8 @@ pub struct Report {
     pub differences: u64,
     /// The differences of whole replies, which are among all of them.
     pub of_replies: u64,
+    /// The failures that are no comparison, which are among all differences.
+    pub failures: u64,
     quiet: bool,
 }
 
@@ -41,6 +43,7 @@ impl Report {
     /// A failure that is no comparison, as a kind of chunk that was never met.
     pub fn fail(&mut self, text: String) {
         self.differences += 1;
+        self.failures += 1;
         if !self.quiet {
             println!("difference: {text}");
         }

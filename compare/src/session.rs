@@ -45,7 +45,7 @@ pub const FULL: Amount = Amount {
 };
 
 /// Reopens a journal on both sides: answer, record, lines, trailing bytes and cells.
-fn reopening(report: &mut Report, calls: &impl Calls, journal: &[u8], held: usize, cells: usize) {
+pub fn reopening(report: &mut Report, calls: &impl Calls, journal: &[u8], held: usize, cells: usize) {
     let mut ours = vec![STALE; cells];
     let answer = calls.reopen(journal, held, &mut ours);
     let wanted = model::reopen(journal, held, cells);
@@ -105,7 +105,7 @@ fn journals(report: &mut Report, rng: &mut Rng, calls: &impl Calls, many: u64) {
 }
 
 /// A fresh session on both sides, in a journal of this length.
-fn started(
+pub fn started(
     report: &mut Report,
     calls: &impl Calls,
     site: &Site,
@@ -161,16 +161,34 @@ pub fn called(report: &mut Report, calls: &impl Calls, lent: &Lent, call: &Call)
     (left, wanted)
 }
 
-/// A session of random calls, held to the reference model after each. Answers the session's states, the fresh one
-/// first.
+/// A fresh session of random calls. Answers its states, the fresh one first.
 pub fn session(report: &mut Report, rng: &mut Rng, calls: &impl Calls, many: u64) -> Option<Vec<Lent>> {
+    let (lent, reference) = begun(report, rng, calls)?;
+    let any = |rng: &mut Rng, lent: &Lent| journals::call(rng, lent.record.site.chunk_size);
+    Some(held(report, rng, calls, (lent, reference), many, any))
+}
+
+/// A fresh session on both sides, in a journal of some length, beside the reference model of it.
+pub fn begun(report: &mut Report, rng: &mut Rng, calls: &impl Calls) -> Option<(Lent, Reference)> {
     let site = journals::site(rng);
     let length = rng.pick(&[60, 120, 400, 2000, 32_768]);
-    let mut lent = started(report, calls, &site, site.chunk_size.pow(3), length)?;
-    let mut reference = Reference::new(site, length);
+    let lent = started(report, calls, &site, site.chunk_size.pow(3), length)?;
+    Some((lent, Reference::new(site, length)))
+}
+
+/// So many calls on a session, which is held to its reference model after each. Answers the session's states, the given
+/// one first.
+pub fn held(
+    report: &mut Report,
+    rng: &mut Rng,
+    calls: &impl Calls,
+    (mut lent, mut reference): (Lent, Reference),
+    many: u64,
+    mut next: impl FnMut(&mut Rng, &Lent) -> Call,
+) -> Vec<Lent> {
     let mut states = vec![lent.clone()];
     for _ in 0..many {
-        let call = journals::call(rng, site.chunk_size);
+        let call = next(rng, &lent);
         let (left, reply) = called(report, calls, &lent, &call);
         let wanted = reference.reply(&call);
         lent = left;
@@ -188,12 +206,15 @@ pub fn session(report: &mut Report, rng: &mut Rng, calls: &impl Calls, many: u64
         });
         states.push(lent.clone());
     }
-    Some(states)
+    states
 }
+
+/// The next call on a session that goes on, after so many; none where it ends.
+pub type Next<'a> = &'a mut dyn FnMut(&mut Rng, &Lent, usize) -> Option<Call>;
 
 /// A session cut at every byte, with tails of zeros (SCOPE 9.2, 9.5): the reopened one has the cells, count, used bytes
 /// and active edits that the first one had after the last call whose line is whole. At one cut in eight both go on.
-fn cuts(report: &mut Report, rng: &mut Rng, calls: &impl Calls, states: &[Lent]) {
+pub fn cuts(report: &mut Report, rng: &mut Rng, calls: &impl Calls, states: &[Lent], next: Next) {
     let last = states.last().expect("a session has a state");
     for q in 0..=last.record.used {
         let tail = rng.below(1 + (last.journal.len() - q).min(40) as u64) as usize;
@@ -213,27 +234,33 @@ fn cuts(report: &mut Report, rng: &mut Rng, calls: &impl Calls, states: &[Lent])
             format!("cut at {q}: the reopened session is not the first one, {answer:?}")
         });
         if let (Ok((record, _, _)), Some(first), true) = (answer, whole, rng.once_in(8)) {
-            go_on(
-                report,
-                rng,
-                calls,
-                Lent {
-                    record,
-                    cells,
-                    journal,
-                },
-                first.clone(),
-            );
+            let second = Lent {
+                record,
+                cells,
+                journal,
+            };
+            go_on(report, rng, calls, [second, first.clone()], next);
         }
     }
 }
 
+/// Six calls of any kind.
+fn six(rng: &mut Rng, lent: &Lent, done: usize) -> Option<Call> {
+    (done < 6).then(|| journals::call(rng, lent.record.site.chunk_size))
+}
+
 /// Further calls on the first session, on the reopened one and on the model of the first, which goes on by itself: what
 /// either call leaves and its whole reply must be the model's. Behind the used bytes each keeps what its journal has.
-fn go_on(report: &mut Report, rng: &mut Rng, calls: &impl Calls, mut second: Lent, mut first: Lent) {
+pub fn go_on(
+    report: &mut Report,
+    rng: &mut Rng,
+    calls: &impl Calls,
+    [mut second, mut first]: [Lent; 2],
+    next: Next,
+) {
     let mut model = first.clone();
-    for _ in 0..6 {
-        let call = journals::call(rng, model.record.site.chunk_size);
+    let mut done = 0;
+    while let Some(call) = next(rng, &model, done) {
         let (left, wanted) = model::replied(&model, &call);
         let mut taken_over = Lent {
             journal: second.journal.clone(),
@@ -254,6 +281,7 @@ fn go_on(report: &mut Report, rng: &mut Rng, calls: &impl Calls, mut second: Len
             format!("{call:?} after a reopening: wanted {wanted:?}, first {a:?}, second {b:?}")
         });
         model = left;
+        done += 1;
     }
 }
 
@@ -432,7 +460,7 @@ pub fn compare(report: &mut Report, calls: &impl Calls, amount: &Amount) {
     while cut < amount.cut_sessions {
         let turns = rng.below(14);
         if let Some(states) = session(report, &mut rng, calls, turns) {
-            cuts(report, &mut rng, calls, &states);
+            cuts(report, &mut rng, calls, &states, &mut six);
             cut += 1;
         }
     }

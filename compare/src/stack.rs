@@ -150,6 +150,14 @@ pub fn measure(report: &mut Report) -> Vec<(&'static str, usize)> {
     note("session set", &mut || press(set, &Call::Set([1, 2, 3], 4)));
     note("session column", &mut || press(column, &column_call));
     note("session batch", &mut || press(batch, &Call::Batch(groups())));
+    // The same again finds its cells there, and alters nothing.
+    note("session set onto itself", &mut || {
+        press(set, &Call::Set([1, 2, 3], 4))
+    });
+    note("session column onto itself", &mut || press(column, &column_call));
+    note("session batch onto itself", &mut || {
+        press(batch, &Call::Batch(groups()))
+    });
     note("undo", &mut || press(undo, &Call::Undo));
     note("fresh session", &mut || {
         keep(Product.fresh(&site(), &mut cells, &mut journal))

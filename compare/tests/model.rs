@@ -154,7 +154,7 @@ impl Double {
     fn tell(&self, lent: &Lent, next: &Lent, call: &Call, reply: &mut Reply) {
         let size = lent.record.site.chunk_size;
         let (line, full) = (next.record.used > lent.record.used, reply.number == 24);
-        let outside = reply.number == 0 && !line;
+        let outside = reply.number == 0 && model::edit_of(size, call).is_none();
         match (self.slip, call) {
             (Slip::PreviousAfterTheWrite, Call::Set(_, id)) if line => reply.previous = *id,
             (Slip::PreviousOfAColumn, Call::Column { x, z, .. }) if line => {
@@ -358,6 +358,14 @@ fn worked_out() -> Vec<(Call, Reply)> {
         (column([0, 0], 7, 5), tells(0, 0, 1)),
         (column([0, 0], 0, 3), tells(0, 0, 0)),
         (column([1, 1], usize::MAX, 3), tells(0, 0, 2)),
+        (column([1, 1], 2, 3), tells(0, 0, 0)),
+        // Two cells are set and set back, a third one holds its 5 already.
+        (
+            Call::Batch(vec![
+                1, 0, 1, 9, 1, 1, 1, 0, 0, 1, 0, 5, 1, 1, 1, 3, 1, 0, 1, 65_539,
+            ]),
+            tells(5, 0, 0),
+        ),
         // (1, 0, 0) is set and set back; (0, 1, 0) is set twice; (1, 1, 1) holds its 3 already; one lies outside.
         (
             Call::Batch(vec![
@@ -373,19 +381,33 @@ fn worked_out() -> Vec<(Call, Reply)> {
         // Refused.
         (Call::Set([0, 2, 0], 1), Reply::refused(7)),
         (Call::Batch(vec![0; 68]), Reply::refused(8)),
-        // The two batches, the columns (two cells, none, then 5 to the air that it covered), and the sets: 0 to 9, 9
-        // to 9, 9 to 5.
+        // What altered a cell is undone, and nothing else: the two batches, the columns (two cells, then 5 to the air
+        // that it covered), and the sets: 0 to 9, 9 to 5.
         (Call::Undo, tells(0, 0, 2)),
         (Call::Undo, tells(0, 0, 1)),
         (Call::Undo, tells(0, 0, 2)),
-        (Call::Undo, tells(0, 0, 0)),
         (Call::Undo, tells(0, 0, 1)),
         (Call::Undo, tells(0, 0, 1)),
-        (Call::Undo, tells(0, 0, 0)),
         (Call::Undo, tells(0, 0, 1)),
         (Call::Undo, Reply::refused(23)),
     ]
 }
+
+/// The journal of these calls: a line for each call that alters a cell.
+const WORKED_OUT: &str = "G\t0\t4096\t256\t2\t0\t128\t0
+S\t0\t0\t0\t9
+S\t0\t0\t0\t0
+C\t0\t0\t2\t5
+C\t1\t1\t2\t3
+B\t5\t1\t0\t0\t8\t0\t1\t0\t8\t1\t0\t0\t5\t0\t1\t0\t7\t1\t1\t1\t3
+B\t2\t0\t0\t0\t6\t0\t0\t1\t6
+U
+U
+U
+U
+U
+U
+";
 
 #[test]
 fn replies_worked_out_by_hand() {
@@ -396,6 +418,8 @@ fn replies_worked_out_by_hand() {
         assert_eq!(reference.reply(&call), wanted, "the reference model on {call:?}");
         lent = left;
     }
+    assert_eq!(&lent.journal[..lent.record.used], WORKED_OUT.as_bytes());
+    assert_eq!(reference.bytes, WORKED_OUT.as_bytes());
 }
 
 #[test]
@@ -405,6 +429,8 @@ fn refusals_tell_nothing_of_the_cells() {
     for call in [Call::Set([1, 1, 1], 7), column([0, 0], 2, 7), Call::Undo] {
         assert_eq!(model::replied(&lent, &call).1, Reply::refused(24), "{call:?}");
     }
+    // The id that is there needs no room.
+    assert_eq!(model::replied(&lent, &Call::Set([1, 1, 1], 9)).1, tells(0, 9, 0));
     lent.record.count = 9;
     assert_eq!(
         model::replied(&lent, &Call::Set([1, 1, 1], 7)).1,
@@ -438,6 +464,101 @@ fn replies_are_of_the_lent_cells() {
     assert_eq!(with(cells, column([1, 0], 2, 4)), tells(0, 0, 1));
     let batch = Call::Batch(vec![0, 0, 1, 1, 0, 1, 1, 7, 0, 0, 1, 65_535]);
     assert_eq!(with(cells, batch), tells(3, 0, 0));
+}
+
+/// A map of the older writer: a set onto water, a column of height 0, a cell that is set and set back, and one line that
+/// alters a cell.
+const OLDER: &str = "G\t0\t4096\t256\t2\t0\t128\t0
+S\t1\t0\t0\t5
+C\t0\t1\t0\t7
+B\t2\t1\t1\t1\t9\t1\t1\t1\t5
+S\t0\t0\t0\t9
+";
+
+fn older_calls() -> [Call; 4] {
+    [
+        Call::Set([1, 0, 0], 5),
+        column([0, 1], 0, 7),
+        Call::Batch(vec![1, 1, 1, 9, 1, 1, 1, 5]),
+        Call::Set([0, 0, 0], 9),
+    ]
+}
+
+#[test]
+fn older_journals_worked_out_by_hand() {
+    let opened = model::reopen(OLDER.as_bytes(), OLDER.len(), 8).expect("an older journal opens");
+    let (record, cells) = (opened.record, opened.cells);
+    assert_eq!((record.active, record.count, opened.lines), (4, 8, 5));
+    assert_eq!(cells, [9, 5, 5, 5, 5, 5, 5, 5]);
+    let mut journal = OLDER.as_bytes().to_vec();
+    journal.resize(OLDER.len() + 8, 0);
+    let mut lent = Lent {
+        record,
+        cells,
+        journal,
+    };
+    // A press that alters nothing has no line here either; the eight bytes that are left are for the undos.
+    let calls = [
+        (Call::Set([0, 0, 0], 9), tells(0, 9, 0)),
+        (Call::Set([0, 0, 0], 8), Reply::refused(24)),
+        (Call::Undo, tells(0, 0, 1)),
+        (Call::Undo, tells(0, 0, 0)),
+        (Call::Undo, tells(0, 0, 0)),
+        (Call::Undo, tells(0, 0, 0)),
+        (Call::Undo, Reply::refused(23)),
+    ];
+    for (call, wanted) in calls {
+        let (left, reply) = model::replied(&lent, &call);
+        assert_eq!(reply, wanted, "{call:?}");
+        lent = left;
+    }
+    assert_eq!(lent.journal, (OLDER.to_string() + "U\nU\nU\nU\n").into_bytes());
+    assert_eq!(lent.cells, [5; 8]);
+}
+
+#[test]
+fn the_older_writer_and_the_present_one() {
+    let [mut older, mut present] = [(); 2].map(|()| Reference::new(SEA, OLDER.len()));
+    for call in older_calls() {
+        assert_eq!((older.write(&call), present.call(&call)), (0, 0), "{call:?}");
+    }
+    assert_eq!(older.bytes, OLDER.as_bytes());
+    assert_eq!(older.active.len(), 4);
+    assert_eq!(present.bytes, b"G\t0\t4096\t256\t2\t0\t128\t0\nS\t0\t0\t0\t9\n");
+    assert_eq!(present.active.len(), 1);
+    let (site, said) = model::said(OLDER.as_bytes(), OLDER.len()).expect("an older journal opens");
+    assert_eq!(site, SEA);
+    assert_eq!(format!("{said:?}"), format!("{:?}", older_calls()));
+}
+
+/// At 256 active edits and without a byte left: 21, 7 and 8 come before a press that alters nothing, 24 after it.
+#[test]
+fn the_order_of_the_tests() {
+    let mut lent = sea();
+    lent.journal.truncate(lent.record.used);
+    lent.record.active = 256;
+    let many = |groups: usize| Call::Batch([1, 1, 1, 5].repeat(groups));
+    let calls = [
+        (Call::Set([1, 1, 1], 5), tells(0, 5, 0)),
+        (column([1, 1], 2, 5), tells(0, 0, 0)),
+        (column([1, 1], 0, 6), tells(0, 0, 0)),
+        (many(16), tells(16, 0, 0)),
+        (Call::Set([1, 1, 1], 6), Reply::refused(24)),
+        (column([1, 1], 1, 6), Reply::refused(24)),
+        (Call::Batch(vec![1, 1, 1, 5, 0, 0, 0, 6]), Reply::refused(24)),
+        (Call::Set([1, 1, 2], 5), Reply::refused(7)),
+        (many(17), Reply::refused(8)),
+    ];
+    for (call, wanted) in calls {
+        assert_eq!(model::replied(&lent, &call), (lent.clone(), wanted), "{call:?}");
+        let mut bad = lent.clone();
+        bad.record.active = 257;
+        assert_eq!(
+            model::replied(&bad, &call),
+            (bad.clone(), Reply::refused(21)),
+            "{call:?}"
+        );
+    }
 }
 
 /// The differences that the checks of failing reads and writes find in a program with a slip.

@@ -82,7 +82,7 @@ static size_t lines_in(const uint8_t *bytes, size_t n) {
     return lines;
 }
 
-/* The presses of a visit; each appends one line. */
+/* The presses of a visit; each alters a cell and appends one line. */
 static pl_reply press(tablet *t, int k) {
     static const uint32_t groups[] = {0, 0, 0, 9, 4, 4, 4, 65536 + 3, 5, 0, 0, 1, 7};
     pl_session *s = &t->session;
@@ -127,10 +127,16 @@ static void take_over(const storage *file, size_t q, const tablet *maps) {
     CHECK(start.trailing == held - start.session.used);
     CHECK(pl_committed_len(next.journal, JOURNAL, held) == start.session.used);
 
-    /* It goes on from there: an edit tells the id that it replaced, and its undo brings the map back. */
+    /* It goes on from there. A press that puts the id that is there changes nothing. */
+    pl_session *s = &next.session;
     const uint16_t before = next.cells[AT_1_2_3];
-    CHECK(tells(press(&next, 0), 0, before, before != 65535) && next.cells[AT_1_2_3] == 65535);
-    CHECK(tells(pl_session_undo(&next.session, next.cells, CELLS, next.journal, JOURNAL), 0, 0, before != 65535));
+    const uint16_t id = before == 1 ? 2 : 1;
+    CHECK(tells(pl_session_set(s, next.cells, CELLS, next.journal, JOURNAL, 1, 2, 3, before), 0, before, 0));
+    CHECK(same_map(&next, &maps[lines - 1]));
+    /* Another id tells the one that it replaced, and its undo brings the map back. */
+    CHECK(tells(pl_session_set(s, next.cells, CELLS, next.journal, JOURNAL, 1, 2, 3, id), 0, before, 1));
+    CHECK(next.cells[AT_1_2_3] == id && next.session.active == maps[lines - 1].session.active + 1);
+    CHECK(tells(pl_session_undo(s, next.cells, CELLS, next.journal, JOURNAL), 0, 0, 1));
     CHECK(memcmp(next.cells, maps[lines - 1].cells, sizeof next.cells) == 0);
     CHECK(next.session.active == maps[lines - 1].session.active && next.session.count == maps[lines - 1].session.count);
 }
@@ -142,7 +148,7 @@ static void refusals(const tablet *last) {
     pl_session *s = &t.session;
     CHECK(refused(pl_session_set(s, t.cells, CELLS, t.journal, JOURNAL, SIZE, 0, 0, 1), PL_OUTSIDE));
     CHECK(refused(pl_session_set_blocks(s, t.cells, CELLS, t.journal, JOURNAL, many, 68), PL_MANY_GROUPS));
-    CHECK(refused(pl_session_set(s, t.cells, CELLS, t.journal, t.session.used, 0, 0, 0, 1), PL_FULL));
+    CHECK(refused(pl_session_set(s, t.cells, CELLS, t.journal, t.session.used, 0, 0, 0, 77), PL_FULL));
     CHECK(refused(pl_session_set(s, t.cells, CELLS - 1, t.journal, JOURNAL, 0, 0, 0, 1), PL_RECORD));
     CHECK(refused(pl_session_set(s, NULL, 0, NULL, 0, 0, 0, 0, 1), PL_RECORD));
     CHECK(tells(pl_session_fill_column(s, t.cells, CELLS, t.journal, JOURNAL, SIZE, 0, 3, 1), 0, 0, 0));
@@ -199,29 +205,79 @@ static void example(void) {
     CHECK(start.session.count == 7 && start.trailing == 3 && memcmp(cells, wanted, sizeof cells) == 0);
 }
 
+/* A map of eight cells. */
+typedef struct small {
+    pl_session session;
+    uint16_t cells[8];
+    uint8_t journal[JOURNAL];
+} small;
+
+/* Presses after which every cell is the same, on a journal of `lent` bytes: they are accepted with their usual numbers,
+ * and record, cells and journal are as they were. */
+static void idle(small *t, size_t lent) {
+    const small before = *t;
+    const uint16_t id = t->cells[0];
+    const uint32_t back[] = {0, 0, 0, id == 1 ? 2u : 1u, 0, 0, 0, id};
+    pl_session *s = &t->session;
+    CHECK(tells(pl_session_set(s, t->cells, 8, t->journal, lent, 0, 0, 0, id), 0, id, 0));
+    CHECK(tells(pl_session_fill_column(s, t->cells, 8, t->journal, lent, 0, 0, 1, id), 0, 0, 0));
+    CHECK(tells(pl_session_fill_column(s, t->cells, 8, t->journal, lent, 1, 1, 0, 8), 0, 0, 0));
+    CHECK(tells(pl_session_set_blocks(s, t->cells, 8, t->journal, lent, back, 8), 2, 0, 0));
+    CHECK(same_session(s, &before.session) && memcmp(t->cells, before.cells, sizeof before.cells) == 0);
+    CHECK(memcmp(t->journal, before.journal, JOURNAL) == 0);
+}
+
 /* What presses tell on eight cells of water (5), worked out by hand. */
 static void worked_out(void) {
     /* (1, 1, 1) is set and set back; (0, 0, 1) is set twice, from 5 to 7 in the end; (0, 0, 0) has its 9 already;
-     * (2, 0, 0) lies outside. Five groups are written, and one cell is altered. */
+     * (2, 0, 0) lies outside. Five groups are inside, and one cell is altered. */
     static const uint32_t groups[] = {1, 1, 1, 8, 1, 1, 1, 5, 0, 0, 1, 8, 0, 0, 1, 7, 0, 0, 0, 9, 2, 0, 0, 1};
+    static const char text[] = "G\t0\t4096\t256\t2\t0\t128\t0\nS\t0\t0\t0\t9\nC\t0\t0\t2\t9\n"
+                               "B\t5\t1\t1\t1\t8\t1\t1\t1\t5\t0\t0\t1\t8\t0\t0\t1\t7\t0\t0\t0\t9\nU\nU\nU\n";
     const pl_config config = {0, 4096, 256, 2};
     const pl_pos pos = {0, 128, 0};
-    uint16_t cells[8];
-    uint8_t j[JOURNAL];
-    const pl_start start = pl_session_fresh(config, pos, cells, 8, j, JOURNAL);
-    CHECK(start.number == PL_OK && start.session.count == 8 && cells[0] == 5 && cells[7] == 5);
-    pl_session s = start.session;
-    CHECK(tells(pl_session_set(&s, cells, 8, j, JOURNAL, 0, 0, 0, 9), 0, 5, 1));
-    CHECK(tells(pl_session_set(&s, cells, 8, j, JOURNAL, 0, 0, 0, 9), 0, 9, 0));
+    small t;
+    memset(&t, 0, sizeof t);
+    const pl_start start = pl_session_fresh(config, pos, t.cells, 8, t.journal, JOURNAL);
+    CHECK(start.number == PL_OK && start.session.count == 8 && t.cells[0] == 5 && t.cells[7] == 5);
+    t.session = start.session;
+    pl_session *s = &t.session;
+    idle(&t, JOURNAL);
+    CHECK(refused(pl_session_undo(s, t.cells, 8, t.journal, JOURNAL), PL_NOTHING_ACTIVE));
+    CHECK(tells(pl_session_set(s, t.cells, 8, t.journal, JOURNAL, 0, 0, 0, 9), 0, 5, 1));
+    idle(&t, JOURNAL);
     /* The column's two cells hold 9 and 5. */
-    CHECK(tells(pl_session_fill_column(&s, cells, 8, j, JOURNAL, 0, 0, 7, 9), 0, 0, 1));
-    CHECK(tells(pl_session_set_blocks(&s, cells, 8, j, JOURNAL, groups, 24), 5, 0, 1));
-    /* Back from 7 to 5, from 9 to 5, none (9 was set on 9), from 9 to 5. */
-    CHECK(tells(pl_session_undo(&s, cells, 8, j, JOURNAL), 0, 0, 1));
-    CHECK(tells(pl_session_undo(&s, cells, 8, j, JOURNAL), 0, 0, 1));
-    CHECK(tells(pl_session_undo(&s, cells, 8, j, JOURNAL), 0, 0, 0));
-    CHECK(tells(pl_session_undo(&s, cells, 8, j, JOURNAL), 0, 0, 1));
-    CHECK(refused(pl_session_undo(&s, cells, 8, j, JOURNAL), PL_NOTHING_ACTIVE));
+    CHECK(tells(pl_session_fill_column(s, t.cells, 8, t.journal, JOURNAL, 0, 0, 7, 9), 0, 0, 1));
+    CHECK(tells(pl_session_set_blocks(s, t.cells, 8, t.journal, JOURNAL, groups, 24), 5, 0, 1));
+    idle(&t, JOURNAL);
+    /* A journal of which all bytes are used has no space for a line. */
+    idle(&t, s->used);
+    CHECK(refused(pl_session_set(s, t.cells, 8, t.journal, s->used, 0, 0, 0, 5), PL_FULL));
+    /* Back from 7 to 5, from 9 to 5, from 9 to 5: what altered nothing is not active. */
+    for (int k = 0; k < 3; k++)
+        CHECK(tells(pl_session_undo(s, t.cells, 8, t.journal, JOURNAL), 0, 0, 1));
+    CHECK(refused(pl_session_undo(s, t.cells, 8, t.journal, JOURNAL), PL_NOTHING_ACTIVE));
+    CHECK(s->used == sizeof text - 1 && memcmp(t.journal, text, sizeof text - 1) == 0);
+}
+
+/* An older journal has lines of presses that altered nothing. It opens, and they are active: their undos alter nothing.
+ * Of its four edits only the second, 9 on (0, 0, 0), altered a cell. */
+static void older(void) {
+    static const char text[] = "G\t0\t4096\t256\t2\t0\t128\t0\nS\t0\t0\t0\t5\nS\t0\t0\t0\t9\nC\t1\t0\t0\t8\n"
+                               "B\t2\t1\t1\t1\t8\t1\t1\t1\t5\n";
+    static const size_t altered[4] = {0, 0, 1, 0};
+    const size_t n = sizeof text - 1;
+    small t;
+    memset(&t, 0, sizeof t);
+    memcpy(t.journal, text, n);
+    const pl_start start = pl_session_reopen(t.cells, 8, t.journal, JOURNAL, n);
+    CHECK(start.number == PL_OK && start.lines == 5 && start.session.active == 4 && t.cells[0] == 9);
+    t.session = start.session;
+    idle(&t, JOURNAL);
+    for (int k = 0; k < 4; k++)
+        CHECK(tells(pl_session_undo(&t.session, t.cells, 8, t.journal, JOURNAL), 0, 0, altered[k]));
+    CHECK(t.cells[0] == 5 && t.session.used == n + 4 * 2);
+    CHECK(refused(pl_session_undo(&t.session, t.cells, 8, t.journal, JOURNAL), PL_NOTHING_ACTIVE));
 }
 
 /* Tallies of eight cells, worked out by hand: ids that do not stand in ascending order, one id, none. The lists hold 7
@@ -264,7 +320,7 @@ int main(void) {
         const uint16_t *before = maps[k].cells;
         const uint16_t replaced = k == 0 ? before[AT_1_2_3] : k == 4 ? before[AT_4_0_4] : 0;
         const pl_reply r = press(&t, k);
-        CHECK(tells(r, k == 2 ? 2 : 0, replaced, differing(before, t.cells, CELLS)));
+        CHECK(tells(r, k == 2 ? 2 : 0, replaced, differing(before, t.cells, CELLS)) && r.altered > 0);
         CHECK(t.session.count == nonzero(t.cells, CELLS));
         store(&file, &t);
         maps[k + 1] = t;
@@ -277,6 +333,7 @@ int main(void) {
     bare(&t);
     example();
     worked_out();
+    older();
     tallies();
     printf("host in %s: %zu bytes, a cut at each, the map is there\n",
 #ifdef __cplusplus

@@ -276,6 +276,8 @@ fn presses<'a>() -> Vec<Workload<'a>> {
         native: None,
     };
     let [set, column, batch] = edits(&start);
+    // Pressed again, a set or a batch finds its cells there, and alters nothing.
+    let idle = |call: Call| in_turns(&start, [call.clone(), call], 0);
     // An undo lays the same map each time, and from the second on finds it there.
     let undo = |start: &Lent| in_turns(start, [Call::Undo, Call::Undo], 0);
     let batches = stack::batches_session(&Product, site);
@@ -285,6 +287,12 @@ fn presses<'a>() -> Vec<Workload<'a>> {
         row("session set", 1000, set),
         row("session column of 64", 1000, column),
         row("session batch of 16", 1000, batch),
+        row("session set onto itself", 1000, idle(Call::Set([1, 2, 3], 4))),
+        row(
+            "session batch onto itself",
+            1000,
+            idle(Call::Batch(stack::groups())),
+        ),
         row("undo, 255 active sets", 1, undo(&start)),
         row("undo, 255 active batches", 1, undo(&batches)),
         row(

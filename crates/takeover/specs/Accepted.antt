@@ -1,38 +1,45 @@
 -- SCOPE 9.6: for every accepted journal, the calls that its lines say, given to the reference model with a lent length of at least the committed
--- prefix, are refused nowhere and leave exactly those bytes and the active edits. Assumes nothing.
+-- prefix, are refused nowhere and leave exactly those bytes and the active edits: with the older writer, and where no line is an idle edit with the
+-- present one. Assumes nothing.
 use mathlib.Core.Path.{_≡_, refl, sym, _∙_, ap, subst}
-use mathlib.Core.Bool.{_&&_}
 use mathlib.Core.List.{List, [], _∷_, _++_, append-assoc, append-nil, map}
 use mathlib.Core.Option.{Option, some, none, Option·some-injective}
-use Prim.Native.Nat.{ℕ, suc, _+_, _-_, _≤_}
+use Prim.Native.Nat.{ℕ, _+_, _≤_}
 use native.Mathlib.Omega.{arith}
-use lib.IntN.{natAbs}
 use lib.ListN.{length, take, length-append}
 use lib.Seq.{length-take-le}
-use lib.Dec.{ltb, leb, eqb}
-use borrow.Author.Tests.{lt-ltb, le-leb, ltb-false, eqb-true}
+use lib.Dec.{ltb}
+use borrow.Author.Tests.{lt-ltb, le-leb, ltb-false}
 use Rattle.basics.specs.Bools.{by-bool}
-use Rattle.config.specs.declared.Header.{Header}
-use Rattle.config.specs.Limits.{configHeader, limitRefusal}
+use Rattle.config.specs.declared.TerrainConfig.{TerrainConfig}
+use Rattle.config.specs.declared.ChunkPos.{ChunkPos}
+use Rattle.config.specs.Limits.{limitRefusal}
 use Rattle.grid.specs.Grid.{in-all}
 use Rattle.grid_edits.specs.Edits.{Group}
-use Rattle.journal_format.specs.Line.{Edit, set, column, batch, headerText, editText, undoText, ended, Line, edits, undoes, wrong, headerOf}
-use Rattle.journal_format.specs.Journal.{lines, committed, Active, active, dropLast, afterLine, Read, read, bad, follow}
+use Rattle.ground.specs.Ground.{ground}
+use Rattle.journal_format.specs.Line.{Edit, set, column, batch, headerText, editText, undoText, ended, Line, edits, undoes, wrong, lineOf}
+use Rattle.journal_format.specs.Journal.{lines, committed, Active, active, dropLast, afterLine, read}
 use Rattle.journal_format.specs.Lines.{join, committed-le}
 use Rattle.journal_format.specs.RoundTrip.{EditOk}
 use Rattle.journal_format.specs.Sizes.{undo-length}
 use Rattle.journal_format.specs.Batches.{batchArgs, batch-args, batch-given}
-use Rattle.journal_format.specs.Writer.{saidText, LineOk, AllLineOk, onSome, afterAll, journalText, journal-wrote}
+use Rattle.journal_format.specs.Writer.{saidText, LineOk, AllLineOk, onSome, afterAll, follow-said}
 use Rattle.session_calls.specs.Asked.{Asked, asks, clip, setAsks, columnAsks, batchLine, batchAsks}
-use Rattle.session_calls.specs.Record.{cube}
-use Rattle.session_calls.specs.Calls.{configOf, posOf, openWith, openHeader, openLines, sessionReopenDoes}
+use Rattle.session_calls.specs.Record.{sizeOf, headerOfRecord}
+use Rattle.session_calls.specs.Calls.{resumed, sessionReopenDoes}
 use Rattle.session_calls.specs.declared.Session.{Session}
-use Rattle.session_calls.specs.declared.Reopened.the-variants.{Opened, Refused as NotOpened}
+use Rattle.session_calls.specs.declared.Reopened.{Reopened}
+use Rattle.session_calls.specs.declared.Reopened.the-variants.{Opened}
 use Rattle.session_calls.specs.declared.Reply.{Reply}
-use Rattle.session_reopen.proofs.Numbers.{header-back}
-use Rattle.takeover_model.specs.Model.{Call, Model, Ran, modelSize, modelFresh, left, askedBy, modelEdit, modelUndo, modelStep, modelRun, modelReplies}
+use Rattle.takeover_model.specs.Model.{Call, Model, Ran, modelSize, modelHeader, cellsWith, modelCells, modelFresh, left, askedBy, Writer, olderEdit}
+use Rattle.takeover_model.specs.Model.{modelEdit, modelUndo, stepBy, runBy, repliesBy}
 use Rattle.takeover_model.specs.Model as M
 use Rattle.takeover_model.specs.Asks.{set-same, column-same, batch-same}
+use Rattle.takeover_model.specs.Statement.{laterLines}
+use Rattle.takeover_model.specs.Steps.{Good, sessionOf}
+use Rattle.takeover_model.specs.Cut.{Same, same-trans}
+use Rattle.takeover_model.specs.Opened.{opened-start}
+use Rattle.takeover_model.specs.Alters.{Alters, LineAlters, ThenOn, EachLine, LaterAlter, older-same}
 
 -- ---- the call that a line says
 
@@ -80,19 +87,24 @@ pub record Gives (m : Model) (r : Ran) (b : Active) (l : List ℕ) : Type 0 wher
   pub accepted : r .reply .refusal ≡ 0
   pub bytes : r .next .bytes ≡ m .bytes ++ ended l
   pub active : r .next .active ≡ b
-  pub size : modelSize (r .next) ≡ modelSize m
-  pub borrowed : r .next .borrowed ≡ m .borrowed
+  pub same : Same m (r .next)
 
 never : {X : Type 0} (b : Active) → none ≡ some b → X
 never b e = let z : _≡_ {A = ℕ} 0 1 = cc in absurd (omega arith)
 
-edit-gives : (m : Model) (e : Edit) (b : Active) → afterLine (m .active) (edits e) ≡ some b → length (ended (editText e)) ≤ left m
-    → Gives m (modelEdit m (asks e)) b (editText e)
-unfolding afterLine modelEdit
-edit-gives m e b a h =
+-- an edit, by the older writer
+older-gives : (m : Model) (e : Edit) (b : Active) → afterLine (m .active) (edits e) ≡ some b → length (ended (editText e)) ≤ left m
+    → Gives m (olderEdit m (asks e)) b (editText e)
+unfolding afterLine olderEdit
+older-gives m e b a h =
     by-bool (ltb (length (m .active .edits)) 256)
     (λ f. rw (f, le-leb (length (ended (editText e))) (left m) h)
-    (record { accepted = refl; bytes = refl; active = Option·some-injective (active (e ∷ m .active .edits)) b (rw f at a); size = refl; borrowed = refl }))
+    (record {
+      accepted = refl;
+      bytes = refl;
+      active = Option·some-injective (active (e ∷ m .active .edits)) b (rw f at a);
+      same = record { config = refl; place = refl; borrowed = refl };
+    }))
     (λ f. never b (rw f at a))
 
 undo-gives : (m : Model) (b : Active) (es : List Edit) → dropLast es ≡ some b → length (ended undoText) ≤ left m → Gives m (modelUndo m es) b undoText
@@ -100,165 +112,173 @@ unfolding modelUndo
 undo-gives m b [] a h = never b a
 undo-gives m b (e ∷ es) a h =
     let two : 2 ≤ left m = (let l = length-append undoText (10 ∷ []) in let u = undo-length in omega arith) in
-    rw (le-leb 2 (left m) two) (record { accepted = refl; bytes = refl; active = Option·some-injective (active es) b a; size = refl; borrowed = refl })
+    rw (le-leb 2 (left m) two)
+    (record {
+      accepted = refl;
+      bytes = refl;
+      active = Option·some-injective (active es) b a;
+      same = record { config = refl; place = refl; borrowed = refl };
+    })
 
 after-undo : (a b : Active) → afterLine a undoes ≡ some b → dropLast (a .edits) ≡ some b
 unfolding afterLine
 after-undo a b e = e
 
--- .. which the model reads as that edit
-line-asked : (m : Model) (e : Edit) (k : Asked) (b : Active) → k ≡ asks e → afterLine (m .active) (edits e) ≡ some b → length (ended (editText e)) ≤ left m
-    → Gives m (modelEdit m k) b (editText e)
-line-asked m e k b q a h = rw q (edit-gives m e b a h)
+-- ---- all lines, by a writer w that writes those of which `Ok` holds as the older writer does; `from` is the model at the start
 
-line-gives : (m : Model) (d : Line) (p : LineOk (modelSize m) d) (b : Active) → afterLine (m .active) d ≡ some b → length (ended (saidText d)) ≤ left m
-    → Gives m (modelStep m (callOf (modelSize m) d p)) b (saidText d)
-unfolding modelStep
-line-gives m (edits (set x y z id)) p b a h =
-    line-asked m (set x y z id) _ b (asked-line (modelSize m) (set x y z id) p) a h
-line-gives m (edits (column x z height id)) p b a h =
-    line-asked m (column x z height id) _ b (asked-line (modelSize m) (column x z height id) p) a h
-line-gives m (edits (batch gs)) p b a h =
-    line-asked m (batch gs) _ b (asked-line (modelSize m) (batch gs) p) a h
-line-gives m undoes p b a h = undo-gives m b (m .active .edits) (after-undo (m .active) b a) h
-line-gives m wrong p b a h = absurd p
+module _ (w : Writer) (Ok : Active → Line → Type 0) (from : Model)
+    (as-older : (m : Model) (e : Edit) → Same from m → Ok (m .active) (edits e) → w m (asks e) ≡ olderEdit m (asks e)) where
+  -- the call is read as that edit
+  line-asked : (m : Model) (e : Edit) (k : Asked) (b : Active) → k ≡ asks e → Same from m → Ok (m .active) (edits e)
+      → afterLine (m .active) (edits e) ≡ some b → length (ended (editText e)) ≤ left m → Gives m (w m k) b (editText e)
+  line-asked m e k b q s o a h = rw (q, as-older m e s o) (older-gives m e b a h)
 
--- ---- all lines
+  line-gives : (m : Model) (d : Line) (p : LineOk (modelSize m) d) (b : Active) → Same from m → Ok (m .active) d
+      → afterLine (m .active) d ≡ some b → length (ended (saidText d)) ≤ left m → Gives m (stepBy w m (callOf (modelSize m) d p)) b (saidText d)
+  unfolding stepBy
+  line-gives m (edits (set x y z id)) p b s o a h =
+      line-asked m (set x y z id) _ b (asked-line (modelSize m) (set x y z id) p) s o a h
+  line-gives m (edits (column x z height id)) p b s o a h =
+      line-asked m (column x z height id) _ b (asked-line (modelSize m) (column x z height id) p) s o a h
+  line-gives m (edits (batch gs)) p b s o a h =
+      line-asked m (batch gs) _ b (asked-line (modelSize m) (batch gs) p) s o a h
+  line-gives m undoes p b s o a h = undo-gives m b (m .active .edits) (after-undo (m .active) b a) h
+  line-gives m wrong p b s o a h = absurd p
 
--- from the model m on, the calls ks are all accepted, append the text t and leave b active
-pub record Written (m : Model) (ks : List Call) (b : Active) (t : List ℕ) : Type 0 where
-  pub accepted : AllAccepted (modelReplies m ks)
-  pub bytes : modelRun m ks .bytes ≡ m .bytes ++ t
-  pub active : modelRun m ks .active ≡ b
+  -- from the model m on, the calls ks are all accepted, append the text t and leave b active
+  pub record Written (m : Model) (ks : List Call) (b : Active) (t : List ℕ) : Type 0 where
+    pub accepted : AllAccepted (repliesBy w m ks)
+    pub bytes : runBy w m ks .bytes ≡ m .bytes ++ t
+    pub active : runBy w m ks .active ≡ b
 
--- what is shown of the lines that follow a line
-abbrev Later : (size : ℕ) (ds : List Line) (p : AllLineOk size ds) → Type 0
-Later size ds p = (m : Model) (b : Active) → modelSize m ≡ size → afterAll (m .active) ds ≡ some b
-    → length (m .bytes) + length (join (map saidText ds)) ≤ m .borrowed → Written m (callsOf size ds p) b (join (map saidText ds))
+  -- what is shown of the lines that follow a line
+  abbrev Later : (size : ℕ) (ds : List Line) (p : AllLineOk size ds) → Type 0
+  Later size ds p = (m : Model) (b : Active) → modelSize m ≡ size → Same from m → EachLine Ok (m .active) ds → afterAll (m .active) ds ≡ some b
+      → length (m .bytes) + length (join (map saidText ds)) ≤ m .borrowed → Written m (callsOf size ds p) b (join (map saidText ds))
 
-given : (size : ℕ) (m : Model) (d : Line) (c : Active) → modelSize m ≡ size → afterLine (m .active) d ≡ some c → length (ended (saidText d)) ≤ left m
-    → (r : LineOk size d) → Gives m (modelStep m (callOf size d r)) c (saidText d)
-given size m d c z a room r = subst (λ (k : ℕ). (r : LineOk k d) → Gives m (modelStep m (callOf k d r)) c (saidText d)) z (λ r. line-gives m d r c a room) r
+  given : (size : ℕ) (m : Model) (d : Line) (c : Active) → modelSize m ≡ size → Same from m → Ok (m .active) d → afterLine (m .active) d ≡ some c
+      → length (ended (saidText d)) ≤ left m → (r : LineOk size d) → Gives m (stepBy w m (callOf size d r)) c (saidText d)
+  given size m d c z s o a room r =
+      subst (λ (k : ℕ). (r : LineOk k d) → Gives m (stepBy w m (callOf k d r)) c (saidText d)) z (λ r. line-gives m d r c s o a room) r
 
-line-then : (size : ℕ) (d : Line) (ds : List Line) (p : AllLineOk size (d ∷ ds)) (m : Model) (b c : Active) → modelSize m ≡ size → afterAll c ds ≡ some b
-    → length (m .bytes) + length (ended (saidText d) ++ join (map saidText ds)) ≤ m .borrowed → Later size ds (p .1)
-    → Gives m (modelStep m (callOf size d (p .0))) c (saidText d) → Written m (callsOf size (d ∷ ds) p) b (ended (saidText d) ++ join (map saidText ds))
-unfolding modelRun modelReplies
-line-then size d ds p m b c z q h later g =
-    let n : Model = modelStep m (callOf size d (p .0)) .next in
-    let l = length-append (ended (saidText d)) (join (map saidText ds)) in
-    let i : length (n .bytes) + length (join (map saidText ds)) ≤ n .borrowed =
-    (let u = ap length (g .bytes) ∙ length-append (m .bytes) (ended (saidText d)) in let v = g .borrowed in omega arith) in
-    let w = later n b (g .size ∙ z) (ap (λ (x : Active). afterAll x ds) (g .active) ∙ q) i in
-    record {
-      accepted = (g .accepted, w .accepted);
-      bytes = w .bytes ∙ ap (λ (x : List ℕ). x ++ join (map saidText ds)) (g .bytes) ∙ append-assoc (m .bytes) (ended (saidText d)) (join (map saidText ds));
-      active = w .active;
-    }
+  line-then : (size : ℕ) (d : Line) (ds : List Line) (p : AllLineOk size (d ∷ ds)) (m : Model) (b c : Active) → modelSize m ≡ size → Same from m
+      → EachLine Ok c ds → afterAll c ds ≡ some b → length (m .bytes) + length (ended (saidText d) ++ join (map saidText ds)) ≤ m .borrowed
+      → Later size ds (p .1) → Gives m (stepBy w m (callOf size d (p .0))) c (saidText d)
+      → Written m (callsOf size (d ∷ ds) p) b (ended (saidText d) ++ join (map saidText ds))
+  unfolding runBy repliesBy
+  line-then size d ds p m b c z s o q h later g =
+      let n : Model = stepBy w m (callOf size d (p .0)) .next in
+      let l = length-append (ended (saidText d)) (join (map saidText ds)) in
+      let i : length (n .bytes) + length (join (map saidText ds)) ≤ n .borrowed =
+      (let u = ap length (g .bytes) ∙ length-append (m .bytes) (ended (saidText d)) in let v = g .same .borrowed in omega arith) in
+      let r = later n b (ap (λ (x : TerrainConfig). x .«chunk_size») (g .same .config) ∙ z) (same-trans s (g .same))
+      (subst (λ (x : Active). EachLine Ok x ds) (sym (g .active)) o) (ap (λ (x : Active). afterAll x ds) (g .active) ∙ q) i in
+      record {
+        accepted = (g .accepted, r .accepted);
+        bytes = r .bytes ∙ ap (λ (x : List ℕ). x ++ join (map saidText ds)) (g .bytes) ∙ append-assoc (m .bytes) (ended (saidText d)) (join (map saidText ds));
+        active = r .active;
+      }
 
-line-or : (size : ℕ) (d : Line) (ds : List Line) (p : AllLineOk size (d ∷ ds)) (m : Model) (b : Active) → modelSize m ≡ size → (o : Option Active)
-    → afterLine (m .active) d ≡ o → onSome (λ c. afterAll c ds) o ≡ some b
-    → length (m .bytes) + length (ended (saidText d) ++ join (map saidText ds)) ≤ m .borrowed
-    → Later size ds (p .1) → Written m (callsOf size (d ∷ ds) p) b (ended (saidText d) ++ join (map saidText ds))
-line-or size d ds p m b z none a q h later = never b q
-line-or size d ds p m b z (some c) a q h later =
-    let room : length (ended (saidText d)) ≤ left m = (let l = length-append (ended (saidText d)) (join (map saidText ds)) in omega arith) in
-    line-then size d ds p m b c z q h later (given size m d c z a room (p .0))
+  line-or : (size : ℕ) (d : Line) (ds : List Line) (p : AllLineOk size (d ∷ ds)) (m : Model) (b : Active) → modelSize m ≡ size → Same from m
+      → Ok (m .active) d → (o : Option Active) → ThenOn (λ c. EachLine Ok c ds) o → afterLine (m .active) d ≡ o
+      → onSome (λ c. afterAll c ds) o ≡ some b → length (m .bytes) + length (ended (saidText d) ++ join (map saidText ds)) ≤ m .borrowed
+      → Later size ds (p .1) → Written m (callsOf size (d ∷ ds) p) b (ended (saidText d) ++ join (map saidText ds))
+  line-or size d ds p m b z s k none o a q h later = never b q
+  line-or size d ds p m b z s k (some c) o a q h later =
+      let room : length (ended (saidText d)) ≤ left m = (let l = length-append (ended (saidText d)) (join (map saidText ds)) in omega arith) in
+      line-then size d ds p m b c z s o q h later (given size m d c z s k a room (p .0))
 
-lines-written : (size : ℕ) (ds : List Line) (p : AllLineOk size ds) → Later size ds p
-unfolding afterAll modelRun modelReplies join
-lines-written size [] p m b z e h = record { accepted = tt; bytes = sym (append-nil (m .bytes)); active = Option·some-injective (m .active) b e }
-lines-written size (d ∷ ds) p m b z e h = line-or size d ds p m b z (afterLine (m .active) d) refl e h (lines-written size ds (p .1))
+  lines-written : (size : ℕ) (ds : List Line) (p : AllLineOk size ds) → Later size ds p
+  unfolding afterAll runBy repliesBy join
+  lines-written size [] p m b z s o e h = record { accepted = tt; bytes = sym (append-nil (m .bytes)); active = Option·some-injective (m .active) b e }
+  lines-written size (d ∷ ds) p m b z s o e h =
+      line-or size d ds p m b z s (o .0) (afterLine (m .active) d) (o .1) refl e h (lines-written size ds (p .1))
 
--- ---- a whole journal: the model of its first line, and the calls of its later lines
+-- ---- a whole journal: the model of a record's settings and place, and the calls of the journal's later lines
 
--- s is a journal with the first line h and the active edits b; `borrowed` is the length that the model is lent
-pub record Accepted (s : List ℕ) (h : Header) (b : Active) (borrowed : ℕ) : Type 0 where
+-- s is a journal of the record r with the active edits b; `borrowed` is the length that the model is lent, w its writer
+pub record Accepted (w : Writer) (s : List ℕ) (r : Session) (b : Active) (borrowed : ℕ) : Type 0 where
   pub said : List Line
-  pub good : AllLineOk (natAbs (h .«chunk_size»)) said
+  pub good : AllLineOk (sizeOf r) said
   -- no call is refused
-  pub accepted : AllAccepted (modelReplies (modelFresh (configOf h) (posOf h) borrowed) (callsOf (natAbs (h .«chunk_size»)) said good))
+  pub accepted : AllAccepted (repliesBy w (modelFresh (r .config) (r .pos) borrowed) (callsOf (sizeOf r) said good))
   -- the bytes are the committed prefix
-  pub bytes : modelRun (modelFresh (configOf h) (posOf h) borrowed) (callsOf (natAbs (h .«chunk_size»)) said good) .bytes ≡ take (committed s) s
+  pub bytes : runBy w (modelFresh (r .config) (r .pos) borrowed) (callsOf (sizeOf r) said good) .bytes ≡ take (committed s) s
   -- and the active edits are the journal's
-  pub active : modelRun (modelFresh (configOf h) (posOf h) borrowed) (callsOf (natAbs (h .«chunk_size»)) said good) .active ≡ b
+  pub active : runBy w (modelFresh (r .config) (r .pos) borrowed) (callsOf (sizeOf r) said good) .active ≡ b
 
-pub accepted-is-written : (s g : List ℕ) (ls : List (List ℕ)) (h : Header) (b : Active) (borrowed : ℕ)
-    → lines s ≡ g ∷ ls → headerOf g ≡ some h → limitRefusal h ≡ 0 → follow (natAbs (h .«chunk_size»)) 2 (active []) ls ≡ read b → committed s ≤ borrowed
-    → Accepted s h b borrowed
-unfolding modelFresh journalText join
-accepted-is-written s g ls h b borrowed e f l q c =
-    let w = journal-wrote (natAbs (h .«chunk_size»)) 2 h (active []) b s g ls e f q in
-    let k : ended (headerText (configHeader (configOf h) (posOf h))) ≡ ended (headerText h) = ap (λ (x : Header). ended (headerText x)) (header-back h l) in
-    let t : take (committed s) s ≡ ended (headerText h) ++ join (map saidText (w .said)) = w .text in
-    let n : length (ended (headerText (configHeader (configOf h) (posOf h)))) + length (join (map saidText (w .said))) ≤ borrowed =
-    (let u = length-take-le (committed s) s (committed-le s) in
-    let v = sym (ap length t) ∙ u in
-    let x = length-append (ended (headerText h)) (join (map saidText (w .said))) in
-    let y = ap length k in
-    omega arith) in
-    let r = lines-written (natAbs (h .«chunk_size»)) (w .said) (w .good) (modelFresh (configOf h) (posOf h) borrowed) b refl (w .gives) n in
-    record {
-      said = w .said;
-      good = w .good;
-      accepted = r .accepted;
-      bytes = r .bytes ∙ ap (λ (x : List ℕ). x ++ join (map saidText (w .said))) k ∙ sym t;
-      active = r .active;
-    }
-
--- ---- what reopening accepts
-
--- r is a record that reopening gave: its settings and place are the first line's and within the limits, so that a session can begin with them,
--- and the journal is what that session's calls write (SCOPE 1.2, 9.6)
+-- SCOPE 1.2, 9.6: r is a record that reopening gave: its settings and place are within the limits, so that a session can begin with them, and the
+-- journal s is what that session's calls wrote
 pub record AsWritten (s : List ℕ) (r : Session) (borrowed : ℕ) : Type 0 where
-  pub first : Header
   pub activeEdits : Active
-  pub limits : limitRefusal first ≡ 0
-  pub config : r .config ≡ configOf first
-  pub place : r .pos ≡ posOf first
-  pub written : Accepted s first activeEdits borrowed
+  pub edits : laterLines (sizeOf r) (lines s) ≡ read activeEdits
+  pub limits : limitRefusal (headerOfRecord r) ≡ 0
+  -- with the older writer, which writes idle edits too
+  pub older : Accepted olderEdit s r activeEdits borrowed
+  -- and with the present one, where no line is an idle edit
+  pub present : LaterAlter (sizeOf r) (ground (r .config) (r .pos)) (lines s) → Accepted modelEdit s r activeEdits borrowed
 
-not-opened : {X : Type 0} (n l many trailing : ℕ) (r : Session) → NotOpened n l ≡ Opened r many trailing → X
-not-opened n l many trailing r e = let z : _≡_ {A = ℕ} 0 1 = cc in absurd (omega arith)
+-- every line is as the older writer writes it
+each-older : (a : Active) (ds : List Line) → EachLine (λ (b : Active) (d : Line). Unit) a ds
+each-older a [] = tt
+each-older a (d ∷ ds) = (tt, go (afterLine a d) (λ b. each-older b ds))
+  where
+    go : (o : Option Active) → ((b : Active) → EachLine (λ (b : Active) (d : Line). Unit) b ds)
+        → ThenOn (λ b. EachLine (λ (b : Active) (d : Line). Unit) b ds) o
+    go (some b) ih = ih b
+    go none ih = tt
 
-same-session : (a r : Session) (k l many trailing : ℕ) → Opened a k l ≡ Opened r many trailing → a ≡ r
-same-session a r k l many trailing e = cc
+-- a line that is no idle edit is as the present writer writes it
+present-as-older : (from m : Model) (e : Edit) → Same from m → LineAlters (modelSize from) (ground (from .config) (from .place)) (m .active) (edits e)
+    → modelEdit m (asks e) ≡ olderEdit m (asks e)
+unfolding modelCells cellsWith
+present-as-older from m e s p =
+    older-same m e
+    (subst (λ (x : TerrainConfig). Alters (x .«chunk_size») (ground x (m .place)) (m .active .edits) e) (sym (s .config))
+    (subst (λ (x : ChunkPos). Alters (modelSize from) (ground (from .config) x) (m .active .edits) e) (sym (s .place)) p))
 
-by-lines : (c s : List ℕ) (used rest many trailing borrowed : ℕ) (r : Session) (g : List ℕ) (ls : List (List ℕ)) (h : Header) (o : Read) → lines s ≡ g ∷ ls
-    → headerOf g ≡ some h → limitRefusal h ≡ 0 → committed s ≤ borrowed → follow (natAbs (h .«chunk_size»)) 2 (active []) ls ≡ o
-    → openWith (configOf h) (posOf h) used (suc (length ls)) rest c o .answer ≡ Opened r many trailing → AsWritten s r borrowed
-by-lines c s used rest many trailing borrowed r g ls h (bad k) e f l w q a = not-opened 12 k many trailing r a
-by-lines c s used rest many trailing borrowed r g ls h (read b) e f l w q a =
-    let y = same-session _ r _ _ many trailing a in
-    record {
-      first = h;
-      activeEdits = b;
-      limits = l;
-      config = sym (ap (λ (x : Session). x .config) y);
-      place = sym (ap (λ (x : Session). x .pos) y);
-      written = accepted-is-written s g ls h b borrowed e f l q w;
-    }
+-- ---- the state of a model, written from its lines
 
-by-header : (c s : List ℕ) (used rest many trailing borrowed : ℕ) (r : Session) (g : List ℕ) (ls : List (List ℕ)) (o : Option Header) → lines s ≡ g ∷ ls
-    → headerOf g ≡ o → committed s ≤ borrowed → openHeader c used rest o ls .answer ≡ Opened r many trailing → AsWritten s r borrowed
-by-header c s used rest many trailing borrowed r g ls none e f w a = not-opened 11 1 many trailing r a
-by-header c s used rest many trailing borrowed r g ls (some h) e f w a =
-    by-bool (eqb (limitRefusal h) 0)
-    (λ l. by-bool (eqb (length c) (cube (natAbs (h .«chunk_size»))))
-    (λ d. by-lines c s used rest many trailing borrowed r g ls h (follow (natAbs (h .«chunk_size»)) 2 (active []) ls) e f (eqb-true _ _ l) w refl
-    (rw (l, d) at a))
-    (λ d. not-opened 6 0 many trailing r (rw (l, d) at a)))
-    (λ l. not-opened (limitRefusal h) 0 many trailing r (rw l at a))
+module _ (m : Model) (g : Good m) (s : List ℕ) (whole : lines s ≡ headerText (modelHeader m) ∷ g .ls) (bytes : m .bytes ≡ take (committed s) s)
+    (borrowed : ℕ) (fits : length (m .bytes) ≤ borrowed) where
+  -- the model that it began as
+  abbrev new : Model
+  new = modelFresh (m .config) (m .place) borrowed
 
-by-first : (c s : List ℕ) (used rest many trailing borrowed : ℕ) (r : Session) (ls : List (List ℕ)) → lines s ≡ ls → committed s ≤ borrowed
-    → openLines c used rest ls .answer ≡ Opened r many trailing → AsWritten s r borrowed
-by-first c s used rest many trailing borrowed r [] e w a = not-opened 10 0 many trailing r a
-by-first c s used rest many trailing borrowed r (g ∷ ls) e w a = by-header c s used rest many trailing borrowed r g ls (headerOf g) e refl w a
+  written-by : (w : Writer) (Ok : Active → Line → Type 0)
+      → ((n : Model) (e : Edit) → Same new n → Ok (n .active) (edits e) → w n (asks e) ≡ olderEdit n (asks e))
+      → EachLine Ok (active []) (map (lineOf (modelSize m)) (g .ls)) → Accepted w s (sessionOf m) (m .active) borrowed
+  unfolding modelFresh join
+  written-by w Ok as-older ok =
+      let h : List ℕ = ended (headerText (modelHeader m)) in
+      let ds : List Line = map (lineOf (modelSize m)) (g .ls) in
+      let d = follow-said (modelSize m) 2 (active []) (m .active) (g .ls) (g .reads) in
+      let t : m .bytes ≡ h ++ join (map saidText ds) = g .text ∙ ap (λ (x : List (List ℕ)). h ++ join x) (d .text) in
+      let n : length h + length (join (map saidText ds)) ≤ borrowed =
+      (let u = ap length t ∙ length-append h (join (map saidText ds)) in omega arith) in
+      let r = lines-written w Ok new as-older (modelSize m) ds (d .good) new (m .active) refl (record { config = refl; place = refl; borrowed = refl }) ok
+      (d .gives) n in
+      record { said = ds; good = d .good; accepted = r .accepted; bytes = r .bytes ∙ sym t ∙ bytes; active = r .active }
 
+  state-written : AsWritten s (sessionOf m) borrowed
+  unfolding modelFresh
+  state-written = record {
+    activeEdits = m .active;
+    edits = ap (laterLines (modelSize m)) whole ∙ g .reads;
+    limits = g .limits;
+    older = written-by olderEdit (λ (a : Active) (d : Line). Unit) (λ n e same ok. refl) (each-older (active []) (map (lineOf (modelSize m)) (g .ls)));
+    present = λ p.
+        written-by modelEdit (LineAlters (modelSize m) (ground (m .config) (m .place))) (present-as-older new)
+        (subst (LaterAlter (modelSize m) (ground (m .config) (m .place))) whole p);
+  }
+
+-- SCOPE 9.6: whatever reopening accepts
 pub reopened-is-written : (c j : List ℕ) (held many trailing borrowed : ℕ) (r : Session) → sessionReopenDoes c j held .answer ≡ Opened r many trailing
     → committed (take held j) ≤ borrowed → AsWritten (take held j) r borrowed
-unfolding sessionReopenDoes
 reopened-is-written c j held many trailing borrowed r a w =
-    by-bool (leb (length j) 32768 && leb held (length j))
-    (λ e. by-first c (take held j) (committed (take held j)) (held - committed (take held j)) many trailing borrowed r (lines (take held j)) refl w (rw e at a))
-    (λ e. not-opened 9 0 many trailing r (rw e at a))
+    let d : List ℕ = sessionReopenDoes c j held .cells in
+    let o = opened-start c j held many trailing r d (ap (λ (x : Reopened). resumed x d) a) in
+    let n = length-take-le (committed (take held j)) (take held j) (committed-le (take held j)) in
+    let k = ap length (o .bytes) in
+    subst (λ (x : Session). AsWritten (take held j) x borrowed) (sym (o .holds .session))
+    (state-written (o .model) (o .good) (take held j) (o .whole) (o .bytes) borrowed (omega arith))

@@ -26,9 +26,9 @@ use Rattle.takeover.specs.Demand.{model, firstLine, TakenOver, TakeoverT
 
 -- ---- what was made is what `run` and `replies` say
 
-record RanAs (t : Tablet) (ks : List Call) (rs : List Reply) (u : Tablet) : Type 0 where
-  last : u ≡ run t ks
-  answers : rs ≡ replies t ks
+pub record RanAs (t : Tablet) (ks : List Call) (rs : List Reply) (u : Tablet) : Type 0 where
+  pub last : u ≡ run t ks
+  pub answers : rs ≡ replies t ks
 
 -- one step: the outcome o of a call on t
 step : {t u : Tablet} {ks : List Call} {rs : List Reply} (k : Call) (o : Outcome) → o ≡ does t k → RanAs (leaves o) ks rs u → RanAs t (k ∷ ks) (o .reply ∷ rs) u
@@ -38,7 +38,7 @@ step {ks = ks} k o l r = record {
   answers = ap (λ (xs : List Reply). o .reply ∷ xs) (r .answers) ∙ ap (λ (p : Outcome). p .reply ∷ replies (leaves p) ks) l;
 }
 
-ran : {t u : Tablet} {ks : List Call} {rs : List Reply} → Made t ks rs u → RanAs t ks rs u
+pub ran : {t u : Tablet} {ks : List Call} {rs : List Reply} → Made t ks rs u → RanAs t ks rs u
 unfolding run replies does
 ran none = record { last = refl; answers = refl }
 ran (set κs c x y z id h l p) = step (M.set x y z id h) (gave c) l (ran p)
@@ -53,7 +53,7 @@ after-step : (t : Tablet) (ks : List Call) (n : ℕ) (k : Call) (o : Outcome) (u
 unfolding run
 after-step t ks n k o u l e = e ∙ ap (λ (p : Outcome). run (leaves p) (take n ks)) l
 
-after-ran : {t u : Tablet} {ks : List Call} {rs : List Reply} (n : ℕ) (made : Made t ks rs u) → after n made ≡ run t (take n ks)
+pub after-ran : {t u : Tablet} {ks : List Call} {rs : List Reply} (n : ℕ) (made : Made t ks rs u) → after n made ≡ run t (take n ks)
 unfolding run does
 after-ran zero made = refl
 after-ran (suc n) none = refl
@@ -66,11 +66,11 @@ after-ran (suc n) (form k o l p) = after-step _ _ n k o (after n p) l (after-ran
 -- ---- the fresh session
 
 module _ (f : First) where
-  start : Fresher (f .config) (f .place) (now (f .cells)) (now (f .journal)) (sessionFreshDoes (f .config) (f .place) (now (f .cells)) (now (f .journal)))
+  pub start : Fresher (f .config) (f .place) (now (f .cells)) (now (f .journal)) (sessionFreshDoes (f .config) (f .place) (now (f .cells)) (now (f .journal)))
       (f .session)
   start = fresh-holds (f .config) (f .place) (now (f .cells)) (now (f .journal)) (f .session) (sym (ap (λ (b : Begun). b .answer) (f .gives)))
 
-  holds : Holds (model f) (began f)
+  pub holds : Holds (model f) (began f)
   holds = subst (λ (b : Begun). Holds (model f) (tablet (f .session) (b .cells) (b .journal))) (sym (f .gives)) (start .holds)
 
   first-bytes : model f .bytes ≡ firstLine f

@@ -87,7 +87,7 @@ pub struct Reopened {
 /// What an accepted batch of a session tells.
 #[derive(Clone, Copy, Debug, PartialEq, Eq)]
 pub struct Batch {
-    /// How many groups were inside and are written.
+    /// How many groups were inside.
     pub written: usize,
     /// How many cells hold another id than before: one that is set and set back does not, one that is set twice counts
     /// once.
@@ -135,8 +135,12 @@ fn lent(cells: &mut [u16], journal: &mut [u8]) -> (*mut u16, usize, *mut u8, usi
     (cells.as_mut_ptr(), n, journal.as_mut_ptr(), m)
 }
 
+/// A set, column or batch after which every cell is the same is idle: it is accepted with its usual answer, changes
+/// nothing, has no line and does not become active, also where 256 edits are active or the journal is full. An older
+/// journal may have lines of idle edits: there they are active.
 impl Session {
-    /// Sets one cell, and tells the id that it held before. Where that is another than `id`, the cell was altered.
+    /// Sets one cell, and tells the id that it held before. Where that is another than `id`, the cell was altered; else
+    /// the set is idle.
     pub fn set(
         &mut self,
         cells: &mut [u16],
@@ -149,7 +153,7 @@ impl Session {
     }
 
     /// Fills a column from y 0 up to a height, which is clipped to the size, and tells how many cells hold another id
-    /// than before. With x or z outside it tells 0, and has no line.
+    /// than before. Where that is 0, as with height 0 or with x or z outside, nothing changes and there is no line.
     pub fn fill_column(
         &mut self,
         cells: &mut [u16],
@@ -162,8 +166,8 @@ impl Session {
         replied(unsafe { raw::pl_session_fill_column(self, c, n, j, m, x, z, height, id) }).map(|r| r.altered)
     }
 
-    /// Sets the cells of groups x, y, z, id, and tells how many were inside and how many cells they altered. With none
-    /// inside it tells 0 for both, and has no line.
+    /// Sets the cells of groups x, y, z, id, and tells how many were inside and how many cells they altered. Where they
+    /// altered none, or none is inside, nothing changes and there is no line.
     pub fn set_blocks(
         &mut self,
         cells: &mut [u16],
@@ -178,7 +182,8 @@ impl Session {
         })
     }
 
-    /// Takes the last active edit back, and tells how many cells hold another id than before.
+    /// Takes the last active edit back, and tells how many cells hold another id than before. In a map that only these
+    /// calls write that is never 0, but for an idle edit that an older journal has a line of.
     pub fn undo(&mut self, cells: &mut [u16], journal: &mut [u8]) -> Result<usize, Refusal> {
         let (c, n, j, m) = lent(cells, journal);
         replied(unsafe { raw::pl_session_undo(self, c, n, j, m) }).map(|r| r.altered)

@@ -56,7 +56,7 @@ enum Press {
     Undo,
 }
 
-/// A visit; each press appends one line.
+/// A visit; each press alters a cell and appends one line.
 const VISIT: [Press; 7] = [
     Press::Batch(&[3, 3, 3, 70000, 0, 9, 0, 1, 1, 1, 1, 12, 5]),
     Press::Set([0, 1, 2], 8),
@@ -166,16 +166,35 @@ fn take_over(stored: &[u8], q: usize, maps: &[Tablet]) -> Result<(), String> {
     goes_on(next, &last.cells)
 }
 
-/// A press on the next tablet tells the id that it replaced, and its undo brings the map back.
+/// A press on the next tablet that puts the id that is there changes nothing. Another id tells the one that it
+/// replaced, and its undo brings the map back.
 fn goes_on(mut next: Tablet, last: &[u16]) -> Result<(), String> {
-    let (set, at) = (Press::Set([1, 2, 3], 99), 1 + 2 * SIZE + 3 * SIZE * SIZE);
-    let answer = next.press(&set);
-    tells("going on", 1, &set, answer, Ok(Told::Replaced(last[at])))?;
-    check(next.cells[at] == 99, "a press on the next tablet")?;
-    let answer = next.press(&Press::Undo);
-    let one = usize::from(last[at] != 99);
-    tells("going on", 2, &Press::Undo, answer, Ok(Told::Altered(one)))?;
+    let before = last[1 + 2 * SIZE + 3 * SIZE * SIZE];
+    let other = if before == 1 { 2 } else { 1 };
+    let list = [
+        (Press::Set([1, 2, 3], before), Ok(Told::Replaced(before))),
+        (Press::Set([1, 2, 3], other), Ok(Told::Replaced(before))),
+        (Press::Undo, Ok(Told::Altered(1))),
+    ];
+    replay("going on", &mut next, &list)?;
     check(next.cells == last, "an undo brings the map back")
+}
+
+/// Makes presses, and holds each to what it must tell. An edit after which every cell is the same must leave the record
+/// and the journal as they were; any other call that is accepted must add a line.
+fn replay(list: &str, tablet: &mut Tablet, presses: &[(Press, Answer)]) -> Result<(), String> {
+    for (k, (press, wanted)) in (1..).zip(presses) {
+        let before = tablet.clone();
+        let answer = tablet.press(press);
+        tells(list, k, press, answer, *wanted)?;
+        let idle = tablet.cells == before.cells && !matches!(press, Press::Undo);
+        let same = *tablet == before;
+        check(
+            same == (idle || answer.is_err()),
+            &format!("{list}, press {k}, {press:?}: a line where a cell is altered, and only there"),
+        )?;
+    }
+    Ok(())
 }
 
 fn refusals(last: &Tablet) -> Result<(), String> {
@@ -249,9 +268,19 @@ fn bare(last: &Tablet) -> Result<(), String> {
 }
 
 /// What presses tell on eight cells of water (5), worked out by hand.
-const UNDER_THE_SEA: [(Press, Answer); 10] = [
+const UNDER_THE_SEA: [(Press, Answer); 14] = [
     (Press::Set([0, 0, 0], 9), Ok(Told::Replaced(5))),
+    // Every cell is the same after these four: they are not active.
     (Press::Set([0, 0, 0], 9), Ok(Told::Replaced(9))),
+    (Press::Column([1, 1], 0, 8), Ok(Told::Altered(0))),
+    (Press::Column([1, 1], 2, 5), Ok(Told::Altered(0))),
+    (
+        Press::Batch(&[1, 0, 0, 0, 1, 0, 0, 5]),
+        Ok(Told::Batch(Batch {
+            written: 2,
+            altered: 0,
+        })),
+    ),
     // The column's two cells hold 9 and 5.
     (Press::Column([0, 0], 7, 9), Ok(Told::Altered(1))),
     // (1, 1, 1) is set and set back, (0, 0, 1) is set twice, (2, 0, 0) lies outside.
@@ -264,12 +293,28 @@ const UNDER_THE_SEA: [(Press, Answer); 10] = [
     ),
     (Press::Undo, Ok(Told::Altered(1))),
     (Press::Undo, Ok(Told::Altered(1))),
-    // The second set put 9 on 9.
-    (Press::Undo, Ok(Told::Altered(0))),
     (Press::Undo, Ok(Told::Altered(1))),
+    (Press::Undo, Err(Refusal::NothingActive)),
+    (Press::Set([0, 0, 0], 5), Ok(Told::Replaced(5))),
     (Press::Undo, Err(Refusal::NothingActive)),
     // Outside: accepted, without a line.
     (Press::Column([2, 0], 1, 9), Ok(Told::Altered(0))),
+];
+
+/// A journal of which all bytes are used: an edit that alters a cell has no space for its line.
+const FULL: [(Press, Answer); 6] = [
+    (Press::Set([0, 0, 0], 5), Ok(Told::Replaced(5))),
+    (Press::Column([1, 1], 0, 8), Ok(Told::Altered(0))),
+    (
+        Press::Batch(&[1, 0, 0, 0, 1, 0, 0, 5]),
+        Ok(Told::Batch(Batch {
+            written: 2,
+            altered: 0,
+        })),
+    ),
+    (Press::Set([0, 0, 0], 9), Err(Refusal::Full)),
+    (Press::Column([1, 1], 1, 8), Err(Refusal::Full)),
+    (Press::Batch(&[1, 0, 0, 0]), Err(Refusal::Full)),
 ];
 
 fn worked_out() -> Result<(), String> {
@@ -282,11 +327,42 @@ fn worked_out() -> Result<(), String> {
     let (cx, cy, cz) = (0, 128, 0);
     let mut tablet = fresh(config, Pos { cx, cy, cz })?;
     check(tablet.cells == [5; 8], "a chunk under the sea")?;
-    for (k, (press, wanted)) in (1..).zip(&UNDER_THE_SEA) {
-        let answer = tablet.press(press);
-        tells("under the sea", k, press, answer, *wanted)?;
-    }
-    check(tablet.cells == [5; 8], "all taken back")
+    replay("under the sea", &mut tablet, &UNDER_THE_SEA)?;
+    check(tablet.cells == [5; 8], "all taken back")?;
+    tablet.journal.truncate(tablet.session.used);
+    replay("a full journal", &mut tablet, &FULL)
+}
+
+/// An older journal: the first of its edits, the third and the fourth have lines, though they altered nothing.
+const OLDER: &[u8] =
+    b"G\t0\t4096\t256\t2\t0\t128\t0\nS\t0\t0\t0\t5\nS\t0\t0\t0\t9\nC\t1\t0\t0\t8\nB\t2\t1\t1\t1\t8\t1\t1\t1\t5\n";
+
+/// There they are active, and are undone one by one; a press of now that alters nothing is not.
+const UNDO_OLDER: [(Press, Answer); 6] = [
+    (Press::Set([0, 0, 0], 9), Ok(Told::Replaced(9))),
+    (Press::Undo, Ok(Told::Altered(0))),
+    (Press::Undo, Ok(Told::Altered(0))),
+    (Press::Undo, Ok(Told::Altered(1))),
+    (Press::Undo, Ok(Told::Altered(0))),
+    (Press::Undo, Err(Refusal::NothingActive)),
+];
+
+fn older() -> Result<(), String> {
+    let (mut cells, mut journal) = (vec![0; 8], vec![0; JOURNAL]);
+    journal[..OLDER.len()].copy_from_slice(OLDER);
+    let opened = told(map::reopen(&mut cells, &journal, OLDER.len()), "an older journal")?;
+    check(
+        opened.lines == 5 && opened.session.active == 4 && cells == [9, 5, 5, 5, 5, 5, 5, 5],
+        "the edits of an older journal are active",
+    )?;
+    let session = opened.session;
+    let mut tablet = Tablet {
+        session,
+        cells,
+        journal,
+    };
+    replay("an older journal", &mut tablet, &UNDO_OLDER)?;
+    check(tablet.cells == [5; 8], "an older journal, all taken back")
 }
 
 /// Eight cells, how many ids they hold, and the two lists after a tally.
@@ -337,6 +413,10 @@ fn run() -> Result<usize, String> {
             answer,
             wanted(press, before, &tablet.cells),
         )?;
+        check(
+            differing(before, &tablet.cells) > 0,
+            "a press of the visit alters a cell",
+        )?;
         stored.extend_from_slice(&tablet.journal[stored.len()..tablet.session.used]);
         check(tablet.session.count == nonzero(&tablet.cells), "the count")?;
         maps.push(tablet.clone());
@@ -352,6 +432,7 @@ fn run() -> Result<usize, String> {
     refusals(&maps[VISIT.len()])?;
     bare(&maps[VISIT.len()])?;
     worked_out()?;
+    older()?;
     tallies()?;
     Ok(stored.len())
 }
