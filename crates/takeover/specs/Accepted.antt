@@ -6,6 +6,7 @@ use mathlib.Core.List.{List, [], _∷_, _++_, append-assoc, append-nil, map}
 use mathlib.Core.Option.{Option, some, none, Option·some-injective}
 use Prim.Native.Nat.{ℕ, _+_, _≤_}
 use native.Mathlib.Omega.{arith}
+use lib.IntN.{natAbs}
 use lib.ListN.{length, take, length-append}
 use lib.Seq.{length-take-le}
 use lib.Dec.{ltb}
@@ -13,30 +14,31 @@ use borrow.Author.Tests.{lt-ltb, le-leb, ltb-false}
 use Rattle.basics.specs.Bools.{by-bool}
 use Rattle.config.specs.declared.TerrainConfig.{TerrainConfig}
 use Rattle.config.specs.declared.ChunkPos.{ChunkPos}
-use Rattle.config.specs.Limits.{limitRefusal}
+use Rattle.config.specs.declared.Header.{Header}
+use Rattle.config.specs.Limits.{configHeader, limitRefusal}
 use Rattle.grid.specs.Grid.{in-all}
 use Rattle.grid_edits.specs.Edits.{Group}
 use Rattle.ground.specs.Ground.{ground}
-use Rattle.journal_format.specs.Line.{Edit, set, column, batch, headerText, editText, undoText, ended, Line, edits, undoes, wrong, lineOf}
-use Rattle.journal_format.specs.Journal.{lines, committed, Active, active, dropLast, afterLine, read}
-use Rattle.journal_format.specs.Lines.{join, committed-le}
+use Rattle.journal_format.specs.Line.{Edit, set, column, batch, headerText, editText, undoText, ended, Line, edits, undoes, wrong, headerOf, lineOf}
+use Rattle.journal_format.specs.Journal.{lines, committed, Active, active, dropLast, afterLine, read, follow}
+use Rattle.journal_format.specs.Lines.{join, committed-le, take-committed}
 use Rattle.journal_format.specs.RoundTrip.{EditOk}
 use Rattle.journal_format.specs.Sizes.{undo-length}
 use Rattle.journal_format.specs.Batches.{batchArgs, batch-args, batch-given}
 use Rattle.journal_format.specs.Writer.{saidText, LineOk, AllLineOk, onSome, afterAll, follow-said}
 use Rattle.session_calls.specs.Asked.{Asked, asks, clip, setAsks, columnAsks, batchLine, batchAsks}
 use Rattle.session_calls.specs.Record.{sizeOf, headerOfRecord}
-use Rattle.session_calls.specs.Calls.{resumed, sessionReopenDoes}
+use Rattle.session_calls.specs.Calls.{resumed, configOf, posOf, sessionReopenDoes}
+use Rattle.session_calls.specs.FirstLine.{text-back}
 use Rattle.session_calls.specs.declared.Session.{Session}
 use Rattle.session_calls.specs.declared.Reopened.{Reopened}
 use Rattle.session_calls.specs.declared.Reopened.the-variants.{Opened}
 use Rattle.session_calls.specs.declared.Reply.{Reply}
-use Rattle.takeover_model.specs.Model.{Call, Model, Ran, modelSize, modelHeader, cellsWith, modelCells, modelFresh, left, askedBy, Writer, olderEdit}
+use Rattle.takeover_model.specs.Model.{Call, Model, Ran, modelSize, cellsWith, modelCells, modelFresh, left, askedBy, Writer, olderEdit}
 use Rattle.takeover_model.specs.Model.{modelEdit, modelUndo, stepBy, runBy, repliesBy}
 use Rattle.takeover_model.specs.Model as M
 use Rattle.takeover_model.specs.Asks.{set-same, column-same, batch-same}
 use Rattle.takeover_model.specs.Statement.{laterLines}
-use Rattle.takeover_model.specs.Steps.{Good, sessionOf}
 use Rattle.takeover_model.specs.Cut.{Same, same-trans}
 use Rattle.takeover_model.specs.Opened.{opened-start}
 use Rattle.takeover_model.specs.Alters.{Alters, LineAlters, ThenOn, EachLine, LaterAlter, older-same}
@@ -194,29 +196,25 @@ module _ (w : Writer) (Ok : Active → Line → Type 0) (from : Model)
   lines-written size (d ∷ ds) p m b z s o e h =
       line-or size d ds p m b z s (o .0) (afterLine (m .active) d) (o .1) refl e h (lines-written size ds (p .1))
 
--- ---- a whole journal: the model of a record's settings and place, and the calls of the journal's later lines
+-- ---- a whole journal: the model of its settings and place, and the calls of its later lines
 
--- s is a journal of the record r with the active edits b; `borrowed` is the length that the model is lent, w its writer
-pub record Accepted (w : Writer) (s : List ℕ) (r : Session) (b : Active) (borrowed : ℕ) : Type 0 where
+-- s is a journal of these settings and this place, with the active edits b; `borrowed` is the length that the model is lent, w its writer
+pub record Accepted (w : Writer) (s : List ℕ) (config : TerrainConfig) (place : ChunkPos) (b : Active) (borrowed : ℕ) : Type 0 where
   pub said : List Line
-  pub good : AllLineOk (sizeOf r) said
+  pub good : AllLineOk (config .«chunk_size») said
   -- no call is refused
-  pub accepted : AllAccepted (repliesBy w (modelFresh (r .config) (r .pos) borrowed) (callsOf (sizeOf r) said good))
+  pub accepted : AllAccepted (repliesBy w (modelFresh config place borrowed) (callsOf (config .«chunk_size») said good))
   -- the bytes are the committed prefix
-  pub bytes : runBy w (modelFresh (r .config) (r .pos) borrowed) (callsOf (sizeOf r) said good) .bytes ≡ take (committed s) s
+  pub bytes : runBy w (modelFresh config place borrowed) (callsOf (config .«chunk_size») said good) .bytes ≡ take (committed s) s
   -- and the active edits are the journal's
-  pub active : runBy w (modelFresh (r .config) (r .pos) borrowed) (callsOf (sizeOf r) said good) .active ≡ b
+  pub active : runBy w (modelFresh config place borrowed) (callsOf (config .«chunk_size») said good) .active ≡ b
 
--- SCOPE 1.2, 9.6: r is a record that reopening gave: its settings and place are within the limits, so that a session can begin with them, and the
--- journal s is what that session's calls wrote
-pub record AsWritten (s : List ℕ) (r : Session) (borrowed : ℕ) : Type 0 where
-  pub activeEdits : Active
-  pub edits : laterLines (sizeOf r) (lines s) ≡ read activeEdits
-  pub limits : limitRefusal (headerOfRecord r) ≡ 0
+-- SCOPE 9.6
+pub record WrittenByBoth (s : List ℕ) (config : TerrainConfig) (place : ChunkPos) (b : Active) (borrowed : ℕ) : Type 0 where
   -- with the older writer, which writes idle edits too
-  pub older : Accepted olderEdit s r activeEdits borrowed
+  pub older : Accepted olderEdit s config place b borrowed
   -- and with the present one, where no line is an idle edit
-  pub present : LaterAlter (sizeOf r) (ground (r .config) (r .pos)) (lines s) → Accepted modelEdit s r activeEdits borrowed
+  pub present : LaterAlter (config .«chunk_size») (ground config place) (lines s) → Accepted modelEdit s config place b borrowed
 
 -- every line is as the older writer writes it
 each-older : (a : Active) (ds : List Line) → EachLine (λ (b : Active) (d : Line). Unit) a ds
@@ -237,48 +235,69 @@ present-as-older from m e s p =
     (subst (λ (x : TerrainConfig). Alters (x .«chunk_size») (ground x (m .place)) (m .active .edits) e) (sym (s .config))
     (subst (λ (x : ChunkPos). Alters (modelSize from) (ground (from .config) x) (m .active .edits) e) (sym (s .place)) p))
 
--- ---- the state of a model, written from its lines
+-- ---- the proof: from G's line and good lines behind it
 
-module _ (m : Model) (g : Good m) (s : List ℕ) (whole : lines s ≡ headerText (modelHeader m) ∷ g .ls) (bytes : m .bytes ≡ take (committed s) s)
-    (borrowed : ℕ) (fits : length (m .bytes) ≤ borrowed) where
+module _ (config : TerrainConfig) (place : ChunkPos) (s : List ℕ) (ls : List (List ℕ)) (b : Active)
+    (whole : lines s ≡ headerText (configHeader config place) ∷ ls) (reads : follow (config .«chunk_size») 2 (active []) ls ≡ read b)
+    (borrowed : ℕ) (fits : committed s ≤ borrowed) where
   -- the model that it began as
   abbrev new : Model
-  new = modelFresh (m .config) (m .place) borrowed
+  new = modelFresh config place borrowed
 
   written-by : (w : Writer) (Ok : Active → Line → Type 0)
       → ((n : Model) (e : Edit) → Same new n → Ok (n .active) (edits e) → w n (asks e) ≡ olderEdit n (asks e))
-      → EachLine Ok (active []) (map (lineOf (modelSize m)) (g .ls)) → Accepted w s (sessionOf m) (m .active) borrowed
+      → EachLine Ok (active []) (map (lineOf (config .«chunk_size»)) ls) → Accepted w s config place b borrowed
   unfolding modelFresh join
   written-by w Ok as-older ok =
-      let h : List ℕ = ended (headerText (modelHeader m)) in
-      let ds : List Line = map (lineOf (modelSize m)) (g .ls) in
-      let d = follow-said (modelSize m) 2 (active []) (m .active) (g .ls) (g .reads) in
-      let t : m .bytes ≡ h ++ join (map saidText ds) = g .text ∙ ap (λ (x : List (List ℕ)). h ++ join x) (d .text) in
+      let h : List ℕ = ended (headerText (configHeader config place)) in
+      let ds : List Line = map (lineOf (config .«chunk_size»)) ls in
+      let d = follow-said (config .«chunk_size») 2 (active []) b ls reads in
+      let t : take (committed s) s ≡ h ++ join (map saidText ds) =
+      take-committed s ∙ ap join whole ∙ ap (λ (x : List (List ℕ)). h ++ join x) (d .text) in
       let n : length h + length (join (map saidText ds)) ≤ borrowed =
-      (let u = ap length t ∙ length-append h (join (map saidText ds)) in omega arith) in
-      let r = lines-written w Ok new as-older (modelSize m) ds (d .good) new (m .active) refl (record { config = refl; place = refl; borrowed = refl }) ok
+      (let u = length-take-le (committed s) s (committed-le s) in
+      let v = ap length t ∙ length-append h (join (map saidText ds)) in
+      omega arith) in
+      let r = lines-written w Ok new as-older (config .«chunk_size») ds (d .good) new b refl (record { config = refl; place = refl; borrowed = refl }) ok
       (d .gives) n in
-      record { said = ds; good = d .good; accepted = r .accepted; bytes = r .bytes ∙ sym t ∙ bytes; active = r .active }
+      record { said = ds; good = d .good; accepted = r .accepted; bytes = r .bytes ∙ sym t; active = r .active }
 
-  state-written : AsWritten s (sessionOf m) borrowed
+  by-both : WrittenByBoth s config place b borrowed
   unfolding modelFresh
-  state-written = record {
-    activeEdits = m .active;
-    edits = ap (laterLines (modelSize m)) whole ∙ g .reads;
-    limits = g .limits;
-    older = written-by olderEdit (λ (a : Active) (d : Line). Unit) (λ n e same ok. refl) (each-older (active []) (map (lineOf (modelSize m)) (g .ls)));
+  by-both = record {
+    older = written-by olderEdit (λ (a : Active) (d : Line). Unit) (λ n e same ok. refl) (each-older (active []) (map (lineOf (config .«chunk_size»)) ls));
     present = λ p.
-        written-by modelEdit (LineAlters (modelSize m) (ground (m .config) (m .place))) (present-as-older new)
-        (subst (LaterAlter (modelSize m) (ground (m .config) (m .place))) whole p);
+        written-by modelEdit (LineAlters (config .«chunk_size») (ground config place)) (present-as-older new)
+        (subst (LaterAlter (config .«chunk_size») (ground config place)) whole p);
   }
 
--- SCOPE 9.6: whatever reopening accepts
+-- SCOPE 9.6, of every text: a first line h within the limits, and lines behind it that leave b active
+pub accepted-is-written : (s g : List ℕ) (ls : List (List ℕ)) (h : Header) (b : Active) (borrowed : ℕ)
+    → lines s ≡ g ∷ ls → headerOf g ≡ some h → limitRefusal h ≡ 0 → follow (natAbs (h .«chunk_size»)) 2 (active []) ls ≡ read b → committed s ≤ borrowed
+    → WrittenByBoth s (configOf h) (posOf h) b borrowed
+accepted-is-written s g ls h b borrowed e f l q c =
+    by-both (configOf h) (posOf h) s ls b (e ∙ ap (λ (x : List ℕ). x ∷ ls) (text-back g h f l)) q borrowed c
+
+-- ---- what reopening accepts
+
+-- SCOPE 1.2, 9.6: r is a record that reopening gave: its settings and place are within the limits, so that a session can begin with them, and the
+-- journal s is what that session's calls write
+pub record AsWritten (s : List ℕ) (r : Session) (borrowed : ℕ) : Type 0 where
+  pub activeEdits : Active
+  pub edits : laterLines (sizeOf r) (lines s) ≡ read activeEdits
+  pub limits : limitRefusal (headerOfRecord r) ≡ 0
+  pub written : WrittenByBoth s (r .config) (r .pos) activeEdits borrowed
+
 pub reopened-is-written : (c j : List ℕ) (held many trailing borrowed : ℕ) (r : Session) → sessionReopenDoes c j held .answer ≡ Opened r many trailing
     → committed (take held j) ≤ borrowed → AsWritten (take held j) r borrowed
-reopened-is-written c j held many trailing borrowed r a w =
+reopened-is-written c j held many trailing borrowed r a fits =
     let d : List ℕ = sessionReopenDoes c j held .cells in
     let o = opened-start c j held many trailing r d (ap (λ (x : Reopened). resumed x d) a) in
-    let n = length-take-le (committed (take held j)) (take held j) (committed-le (take held j)) in
-    let k = ap length (o .bytes) in
+    let m : Model = o .model in
     subst (λ (x : Session). AsWritten (take held j) x borrowed) (sym (o .holds .session))
-    (state-written (o .model) (o .good) (take held j) (o .whole) (o .bytes) borrowed (omega arith))
+    (record {
+      activeEdits = m .active;
+      edits = ap (laterLines (modelSize m)) (o .whole) ∙ o .good .reads;
+      limits = o .good .limits;
+      written = by-both (m .config) (m .place) (take held j) (o .good .ls) (m .active) (o .whole) (o .good .reads) borrowed fits;
+    })
