@@ -84,5 +84,6 @@ build_driver() {
 # Tests the driver itself: the model against the scope's example and the reference model, that slips are found, and
 # that the C interface is declared as the header has it.
 test_driver() {
-    (cd "$compare" && env -u RUSTFLAGS cargo test --quiet --release --offline --test model --test idle --test tally --test header)
+    (cd "$compare" && env -u RUSTFLAGS cargo test --quiet --release --offline \
+        --test model --test idle --test marks --test mark_slips --test tally --test header)
 }

@@ -45,9 +45,12 @@ enum pl_number {
     PL_LATER_LINE = 12,     /* a line behind the first that is malformed, or not allowed there */
     PL_TALLY_LISTS = 13,    /* a list of the tally has fewer places than there are ids */
     PL_RECORD = 21,         /* an invalid record, or a count that does not belong to these cells */
-    PL_USED_BYTES = 22,     /* undo: the used bytes are not this record's journal */
+    PL_USED_BYTES = 22,     /* undo, checkpoint, restore: the used bytes are not this record's journal */
     PL_NOTHING_ACTIVE = 23, /* undo: nothing is active */
-    PL_FULL = 24,           /* no space for the line, or 256 edits active */
+    PL_FULL = 24,           /* no space for the line, or an edit where 256 are active */
+    PL_NAME = 25,           /* a name that is not 1 to 16 bytes, each of a to z or 0 to 9 */
+    PL_UNKNOWN_NAME = 26,   /* restore: no checkpoint has this name */
+    PL_MANY_NAMES = 27,     /* checkpoint: a seventeenth name */
     PL_FACE = 99            /* this interface alone: a number that names no face */
 };
 
@@ -56,7 +59,9 @@ enum pl_limit {
     PL_JOURNAL_MOST = 32768,
     PL_ACTIVE_MOST = 256,
     PL_GROUPS_MOST = 16,
-    PL_HEADER_MOST = 48 /* bytes of a first line with its LF, at most */
+    PL_HEADER_MOST = 48, /* bytes of a first line with its LF, at most */
+    PL_NAME_MOST = 16,   /* bytes of a checkpoint's name */
+    PL_NAMES_MOST = 16   /* names of checkpoints in one journal */
 };
 
 /* The six faces of a chunk. */
@@ -89,11 +94,11 @@ typedef struct pl_session {
     size_t active;
 } pl_session;
 
-/* The answer of a session's edit or undo. line is 0; written is the number of a batch's groups that were inside, else
- * 0. previous is the id that the cell of a set held before, else 0. altered is how many cells hold another id than
- * before the call, whatever cells were lent: a cell that a batch sets and sets back is not among them, and one that it
- * sets twice is there once. An edit that altered none tells the other two all the same. A refused call, a column
- * outside and a batch with no group inside tell 0 for all three. */
+/* The answer of a session's edit, undo, checkpoint or restore. line is 0; written is the number of a batch's groups
+ * that were inside, else 0. previous is the id that the cell of a set held before, else 0. altered is how many cells
+ * hold another id than before the call, whatever cells were lent: a cell that a batch sets and sets back is not among
+ * them, and one that it sets twice is there once. An edit that altered none tells the other two all the same. A
+ * refused call, a checkpoint, a column outside and a batch with no group inside tell 0 for all three. */
 typedef struct pl_reply {
     uint32_t number;
     size_t line;
@@ -148,7 +153,15 @@ typedef char pl_start_layout[sizeof(pl_start) == 88 && offsetof(pl_start, number
  * A set, column or batch after which every cell is the same is idle: it is accepted with its usual numbers, changes
  * nothing, has no line and does not become active, also where 256 edits are active or the journal is full. The call as
  * a whole decides: a batch that sets a cell and sets it back is idle, and so is a column of height 0. Older journals
- * may have lines of idle edits: they still open, and there these edits are active. */
+ * may have lines of idle edits: they still open, and there these edits are active.
+ *
+ * A checkpoint remembers the active edits under a name, and a restore makes these the active ones again. A name is 1
+ * to 16 bytes, each of a to z or 0 to 9, with no NUL behind them, and no part of the journal that is lent with it. The
+ * same name again moves its checkpoint; there are at most 16 names, and a restore drops none. Both calls append a
+ * line, also where no cell is altered, and where 256 edits are active: they are not among these. They are not undone
+ * either: an undo takes back the last active edit, straight after a restore the last that the checkpoint remembered.
+ * Checkpoints are in the journal, not in the record: both calls read its used bytes, and a tablet that takes over has
+ * them too. */
 
 /* Lays the ground into cells (size * size * size long) and writes the first line to the journal's start. No edit is
  * active; lines is 1. Refused: 9, 1 to 6, 24 (the first line does not fit). */
@@ -180,6 +193,18 @@ pl_reply pl_session_set_blocks(pl_session *session, uint16_t *cells, size_t cell
  * line of: its undo is accepted and alters none. Refused: 21, 22, 23, 24 (fewer than 2 bytes left). */
 pl_reply pl_session_undo(pl_session *session, uint16_t *cells, size_t cells_len, uint8_t *journal,
                          size_t journal_len);
+
+/* Remembers the active edits under a name, or moves the checkpoint of that name, and appends a line. It is lent no
+ * cells, and tells nothing. Refused: 21 (without the cells' length), 25, 22, 27, 24 (fewer than name_len + 3 bytes
+ * left). */
+pl_reply pl_session_checkpoint(pl_session *session, uint8_t *journal, size_t journal_len, const uint8_t *name,
+                               size_t name_len);
+
+/* Makes the edits that a checkpoint remembers the active ones: the cells are laid anew with them, and a line is
+ * appended. It tells how many cells it altered, which may be 0. Every checkpoint stays, also one that was made later.
+ * Refused: 21, 25, 22, 26, 24 (fewer than name_len + 3 bytes left). */
+pl_reply pl_session_restore(pl_session *session, uint16_t *cells, size_t cells_len, uint8_t *journal,
+                            size_t journal_len, const uint8_t *name, size_t name_len);
 
 /* Takes a map over from the first held bytes of a journal: lays the ground and the active edits into cells. Bytes
  * after the last whole line are counted in trailing and ignored. The journal is only read; to go on, lend it to the

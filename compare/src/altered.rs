@@ -4,6 +4,7 @@ use crate::bare::non_air;
 use crate::chunk::id;
 use crate::journals;
 use crate::model::{edit_of, Call, Lent, Reply};
+use crate::names;
 use crate::report::Report;
 use crate::rng::Rng;
 use crate::session::{called, session, Calls};
@@ -13,7 +14,7 @@ use std::collections::BTreeMap;
 const ON_ONE: u64 = 12;
 
 /// Every kind of reply, each to be met in a run.
-const KINDS: [&str; 14] = [
+const KINDS: [&str; 19] = [
     "refused",
     "nothing inside",
     "set: the id that was there",
@@ -28,6 +29,11 @@ const KINDS: [&str; 14] = [
     "undo: one cell",
     "undo: some cells",
     "undo: every cell",
+    "checkpoint",
+    "restore: no cell",
+    "restore: one cell",
+    "restore: some cells",
+    "restore: every cell",
 ];
 
 /// The kind of a reply, by how many cells were altered. `size` is the chunk's.
@@ -47,6 +53,11 @@ fn kind(call: &Call, reply: &Reply, size: usize) -> &'static str {
         (Call::Undo, 1) => "undo: one cell",
         (Call::Undo, n) if n == size.pow(3) => "undo: every cell",
         (Call::Undo, _) => "undo: some cells",
+        (Call::Checkpoint(_), _) => "checkpoint",
+        (Call::Restore(_), 0) => "restore: no cell",
+        (Call::Restore(_), 1) => "restore: one cell",
+        (Call::Restore(_), n) if n == size.pow(3) => "restore: every cell",
+        (Call::Restore(_), _) => "restore: some cells",
     }
 }
 
@@ -102,11 +113,12 @@ fn back_and_forth(rng: &mut Rng, lent: &Lent) -> Call {
     Call::Batch((0..few + 4).flat_map(group).collect())
 }
 
-/// A call, often an undo or a batch that comes back to its cells.
+/// A call, often an undo, a restore or a batch that comes back to its cells.
 fn press(rng: &mut Rng, lent: &Lent) -> Call {
-    match rng.below(4) {
-        0 => Call::Undo,
-        1 => back_and_forth(rng, lent),
+    match (rng.below(5), names::known(rng, lent)) {
+        (0, _) => Call::Undo,
+        (1, _) => back_and_forth(rng, lent),
+        (2, Some(name)) => Call::Restore(name),
         _ => journals::call(rng, lent.record.site.chunk_size),
     }
 }

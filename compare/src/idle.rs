@@ -7,6 +7,7 @@ use crate::bare::non_air;
 use crate::chunk::STALE;
 use crate::journals;
 use crate::model::{self, Call, Edit, Lent, Record, Reference, Reply, ACTIVE, JOURNAL};
+use crate::names;
 use crate::presses::{idle, near, tapping, view, PRESSES};
 use crate::product::Product;
 use crate::report::Report;
@@ -50,10 +51,11 @@ const PLACES: [&str; 4] = [
 /// Whose cells are lent.
 const CELLS: [&str; 2] = ["on its own cells", "on other cells"];
 
-/// A cause of 21, and what makes it.
-type Cause = (&'static str, fn(&mut Rng, &mut Lent));
+/// A cause of a refusal, and what makes it.
+pub type Cause = (&'static str, fn(&mut Rng, &mut Lent));
 
-const CAUSES: [Cause; 6] = [
+/// The causes of 21. All but those of the cells hold for a checkpoint too.
+pub const CAUSES: [Cause; 6] = [
     ("a count above the cells", |rng, lent| {
         lent.record.count = rng.pick(&[lent.cells.len() as u32 + 1, u32::MAX])
     }),
@@ -79,7 +81,7 @@ const CAUSES: [Cause; 6] = [
 ];
 
 /// What else a run is to meet.
-const OTHERS: [&str; 20] = [
+const OTHERS: [&str; 21] = [
     "a full journal of 32,768 bytes",
     "a count that is not the cells'",
     "a journal that is not the record's",
@@ -99,6 +101,7 @@ const OTHERS: [&str; 20] = [
     "a journal made again, with such lines",
     "a journal made again, without",
     "an undo right after a press that altered nothing",
+    "an undo right after a restore",
     "an undo in a reopened map",
 ];
 
@@ -129,7 +132,8 @@ fn line_of(lent: &Lent, call: &Call) -> usize {
     model::edit_of(lent.record.site.chunk_size, call).map_or(10, |edit| edit.text().len() + 1)
 }
 
-fn room(lent: &Lent) -> usize {
+/// How many bytes a session's journal has left.
+pub fn room(lent: &Lent) -> usize {
     lent.journal.len() - lent.record.used
 }
 
@@ -149,7 +153,7 @@ fn stays(size: usize, cells: &[u16], call: &Call) -> bool {
 }
 
 /// The session of a reference model, lent so many bytes.
-fn session_of(reference: &Reference, length: usize) -> Lent {
+pub fn session_of(reference: &Reference, length: usize) -> Lent {
     let (cells, mut journal) = (reference.cells(), reference.bytes.clone());
     let record = Record {
         site: reference.site,
@@ -175,7 +179,7 @@ fn estrange(rng: &mut Rng, lent: &mut Lent) {
 }
 
 /// An edit with an id that nothing else has, so that it alters every cell that it names.
-fn altering(rng: &mut Rng, size: usize, id: u16) -> Call {
+pub fn altering(rng: &mut Rng, size: usize, id: u16) -> Call {
     let at: [usize; 3] = std::array::from_fn(|_| rng.below(size as u64) as usize);
     let [x, _, z] = at;
     match rng.below(4) {
@@ -206,6 +210,10 @@ fn map(rng: &mut Rng, active: usize, long: bool) -> Reference {
         if rng.once_in(9) {
             reference.write(&Call::Undo);
         }
+        // Among many edits, restores would take too many of them off again.
+        if active < 40 && rng.once_in(6) {
+            reference.write(&names::with_name(rng, names::good));
+        }
     }
     while long && reference.bytes.len() + 16 <= JOURNAL {
         let set = Call::Set([0; 3], next());
@@ -228,7 +236,7 @@ struct Run<'a, C: Calls> {
 }
 
 /// Notes that a kind was met.
-fn note(met: &mut BTreeMap<String, u64>, kind: String) {
+pub fn note(met: &mut BTreeMap<String, u64>, kind: String) {
     *met.entry(kind).or_insert(0) += 1;
 }
 
@@ -446,7 +454,10 @@ impl<C: Calls> Run<'_, C> {
             idle |= older.idle(call);
             accepted &= older.write(call) == 0;
         }
-        let same = accepted && older.bytes == journal && older.active == read.active;
+        let same = accepted
+            && older.bytes == journal
+            && older.active == read.active
+            && older.checkpoints == read.checkpoints;
         self.report.same(same, || {
             format!(
                 "the older writer leaves {} of {held_bytes} bytes",
@@ -530,7 +541,7 @@ impl<C: Calls> Run<'_, C> {
     /// undos were accepted: each must alter a cell, and tell it.
     fn alive(&mut self, reopened: bool) -> Option<u64> {
         let mut lent = self.begins(reopened)?;
-        let (mut undone, mut tapped) = (0, false);
+        let (mut undone, mut tapped, mut restored) = (0, false, false);
         for k in 0.. {
             let bottom = k >= 40;
             let call = if bottom {
@@ -551,13 +562,18 @@ impl<C: Calls> Run<'_, C> {
                 if tapped {
                     self.note("an undo right after a press that altered nothing");
                 }
+                if restored {
+                    self.note("an undo right after a restore");
+                }
                 if reopened {
                     self.note("an undo in a reopened map");
                 }
             } else if bottom {
                 break;
             }
-            tapped = reply.number == 0 && !matches!(call, Call::Undo) && lent.cells == before;
+            let edit = matches!(call, Call::Set(..) | Call::Column { .. } | Call::Batch(_));
+            tapped = reply.number == 0 && edit && lent.cells == before;
+            restored = reply.number == 0 && matches!(call, Call::Restore(_));
         }
         Some(undone)
     }

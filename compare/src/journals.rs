@@ -1,8 +1,10 @@
 //! Random journals, valid and damaged, and random calls of a session.
 use crate::chunk::{batch, coordinate, id};
 use crate::ground::{self, reach, Site};
-use crate::model::{header, Call};
+use crate::model::{header, Call, NAMES};
+use crate::names;
 use crate::rng::Rng;
+use std::collections::BTreeMap;
 
 /// Settings and a place within the limits, mostly of a small size.
 pub fn site(rng: &mut Rng) -> Site {
@@ -36,19 +38,9 @@ pub fn surface(rng: &mut Rng) -> Site {
     site
 }
 
-/// An edit on a chunk of this size: any call but an undo.
+/// An edit on a chunk of this size: inside mostly, else around its edges.
 pub fn edit(rng: &mut Rng, size: usize) -> Call {
-    loop {
-        match call(rng, size) {
-            Call::Undo => {}
-            edit => return edit,
-        }
-    }
-}
-
-/// A call on a chunk of this size: inside mostly, else around its edges.
-pub fn call(rng: &mut Rng, size: usize) -> Call {
-    match rng.below(10) {
+    match rng.below(8) {
         0..=3 => Call::Set(std::array::from_fn(|_| coordinate(rng, size)), id(rng)),
         4 | 5 => Call::Column {
             x: coordinate(rng, size),
@@ -56,8 +48,16 @@ pub fn call(rng: &mut Rng, size: usize) -> Call {
             height: rng.pick(&[0, 1, size, size + 1, usize::MAX]),
             id: id(rng),
         },
-        6 | 7 => Call::Batch(batch(rng, size, 18)),
-        _ => Call::Undo,
+        _ => Call::Batch(batch(rng, size, 18)),
+    }
+}
+
+/// Any of the six calls on a chunk of this size.
+pub fn call(rng: &mut Rng, size: usize) -> Call {
+    match rng.below(14) {
+        0..=7 => edit(rng, size),
+        8 | 9 => Call::Undo,
+        _ => names::with_name(rng, names::any),
     }
 }
 
@@ -106,7 +106,7 @@ fn line(rng: &mut Rng, size: usize, odd: bool) -> String {
             number(rng, size)
         )
     };
-    match rng.below(10) {
+    match rng.below(14) {
         0..=3 => format!("S\t{}\t{}", cell(rng), number(rng, 65_536)),
         4 | 5 => format!(
             "C\t{}\t{}\t{}\t{}",
@@ -127,11 +127,54 @@ fn line(rng: &mut Rng, size: usize, odd: bool) -> String {
                 .collect();
             format!("B\t{said}{all}")
         }
-        _ => "U".into(),
+        8 | 9 => "U".into(),
+        _ => named(rng, odd),
     }
 }
 
-/// A valid journal: a U only where an edit is active, and at most 256 active.
+/// A line with a name, mostly of its form.
+fn named(rng: &mut Rng, odd: bool) -> String {
+    let (letter, name) = (rng.pick(&["M", "R"]), names::good(rng));
+    match rng.below(10) {
+        0 if odd => letter.into(),
+        1 if odd => format!("{letter} {name}"),
+        2 if odd => format!("{}\t{name}", letter.to_lowercase()),
+        3 if odd => format!("{letter}\t{name}\t"),
+        4..=6 if odd => format!("{letter}\t{}", String::from_utf8_lossy(&names::bad(rng).0)),
+        _ => format!("{letter}\t{name}"),
+    }
+}
+
+/// How many edits are active after some lines, and how many each name remembers.
+#[derive(Default)]
+struct Counted {
+    active: i64,
+    names: BTreeMap<String, i64>,
+}
+
+impl Counted {
+    /// Whether a line of its form may come next; then it is counted.
+    fn takes(&mut self, line: &str) -> bool {
+        let active = match line.split_once('\t') {
+            Some(("M", name)) => {
+                let room = self.names.len() < NAMES || self.names.contains_key(name);
+                if room {
+                    self.names.insert(name.into(), self.active);
+                }
+                return room;
+            }
+            Some(("R", name)) => self.names.get(name).copied(),
+            Some(_) => Some(self.active + 1),
+            None => Some(self.active - 1),
+        };
+        let next = active.filter(|n| (0..=256).contains(n));
+        self.active = next.unwrap_or(self.active);
+        next.is_some()
+    }
+}
+
+/// A valid journal: a U only where an edit is active, at most 256 active, an R only of a name that is known, and at
+/// most 16 names.
 pub fn valid(rng: &mut Rng) -> Vec<u8> {
     let s = site(rng);
     let mut text = header(&s) + "\n";
@@ -140,17 +183,14 @@ pub fn valid(rng: &mut Rng) -> Vec<u8> {
     } else {
         rng.below(25)
     };
-    let mut active = 0;
+    let mut counted = Counted::default();
     for _ in 0..lines {
         let next = line(rng, s.chunk_size, false);
-        let change = if next == "U" { -1 } else { 1 };
         let fits = text.len() + next.len() < 32_768;
-        if !(0..=256).contains(&(active + change)) || !fits {
-            continue;
+        if fits && counted.takes(&next) {
+            text.push_str(&next);
+            text.push('\n');
         }
-        active += change;
-        text.push_str(&next);
-        text.push('\n');
     }
     text.into_bytes()
 }
@@ -174,14 +214,42 @@ fn odd(rng: &mut Rng) -> Vec<u8> {
     text.into_bytes()
 }
 
-/// More edits than may be active.
+/// More edits than may be active; among them and behind them are checkpoints and restores of a few names.
 fn crowded(rng: &mut Rng) -> Vec<u8> {
     let s = site(rng);
     let mut text = header(&s) + "\n";
-    for _ in 0..rng.range(250, 262) {
+    for k in 0..rng.range(250, 262) {
         text.push_str(rng.pick(&["S\t0\t0\t0\t1\n", "C\t0\t0\t1\t2\n", "S\t0\t0\t0\t0\n"]));
         if rng.once_in(30) {
             text.push_str("U\n");
+        }
+        if rng.once_in(40) || k > 254 {
+            text.push_str(rng.pick(&["", "M\ta\n", "M\twalls\n"]));
+        }
+        if text.contains("M\twalls") && k > 254 {
+            text.push_str(rng.pick(&["", "R\twalls\n", "R\twalls\nU\n"]));
+        }
+    }
+    text.into_bytes()
+}
+
+/// As many names as a journal has, or one more: some are moved, some restored, and now and then one that is not known.
+fn full_of_names(rng: &mut Rng) -> Vec<u8> {
+    let s = site(rng);
+    let mut text = header(&s) + "\n";
+    let many = rng.pick(&[15, 16, 16, 17]);
+    let all = names::distinct(rng, many);
+    for k in 0..many {
+        if rng.once_in(2) {
+            text.push_str("S\t0\t0\t0\t1\n");
+        }
+        text.push_str(&format!("M\t{}\n", all[k]));
+        let known = rng.below(k as u64 + 1) as usize;
+        match rng.below(8) {
+            0 | 1 => text.push_str(&format!("M\t{}\n", all[known])),
+            2 | 3 => text.push_str(&format!("R\t{}\n", all[known])),
+            4 if rng.once_in(12) => text.push_str(&format!("R\t{}\n", names::good(rng))),
+            _ => {}
         }
     }
     text.into_bytes()
@@ -197,8 +265,8 @@ fn damage(rng: &mut Rng, journal: &mut Vec<u8>) {
         0 => journal[i] = rng.draw() as u8,
         1 => drop(journal.remove(i)),
         2 => journal.insert(i, journal[i]),
-        3 => journal.insert(i, rng.pick(b"\n\t-0123456789GSCBU\r \0+x")),
-        4 => journal[i] = rng.pick(b"\n\t-0123456789GSCBU\r \0+x"),
+        3 => journal.insert(i, rng.pick(b"\n\t-0123456789GSCBUMR\r \0+xa")),
+        4 => journal[i] = rng.pick(b"\n\t-0123456789GSCBUMR\r \0+xa"),
         5 => journal.truncate(i),
         6 => journal.rotate_left(i),
         7 => {
@@ -209,13 +277,14 @@ fn damage(rng: &mut Rng, journal: &mut Vec<u8>) {
     }
 }
 
-/// A journal: valid, odd, crowded or damaged, with a number of held bytes that is mostly its length.
+/// A journal: valid, odd, crowded, full of names or damaged, with a number of held bytes that is mostly its length.
 pub fn journal(rng: &mut Rng) -> (Vec<u8>, usize) {
     let mut text = match rng.below(12) {
         0..=3 => valid(rng),
         4..=7 => odd(rng),
         8 if rng.once_in(4) => crowded(rng),
         9 if rng.once_in(30) => vec![b'\n'; rng.pick(&[32_767, 32_768, 32_769])],
+        10 if rng.once_in(3) => full_of_names(rng),
         _ => {
             let mut text = valid(rng);
             for _ in 0..rng.range(1, 3) {

@@ -1,7 +1,7 @@
 //! Runs every comparison, or only that of the program, or writes the lists for the gate.
 //! Exit status 0: no difference; 1: a difference.
 use compare::report::Report;
-use compare::{chunk, ground, idle, noise, program, session, stack, tally, vectors};
+use compare::{chunk, ground, idle, marks, noise, program, session, stack, tally, vectors};
 use std::process::ExitCode;
 
 fn main() -> ExitCode {
@@ -16,6 +16,7 @@ fn main() -> ExitCode {
             tally::run(&mut report);
             session::run(&mut report);
             idle::run(&mut report);
+            marks::run(&mut report);
             stack::run(&mut report);
             program::run(&mut report);
             vectors::check(&mut report);

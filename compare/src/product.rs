@@ -166,7 +166,24 @@ fn empty(start: &raw::Start) -> bool {
     start.session == nothing && start.lines == 0 && start.trailing == 0
 }
 
-/// The product's session calls, over a record lent by reference.
+/// The name that a call is given; none of an edit and an undo.
+fn name_of(call: &Call) -> &[u8] {
+    match call {
+        Call::Checkpoint(name) | Call::Restore(name) => &name.0,
+        _ => &[],
+    }
+}
+
+/// A name as C takes it: NULL where it has no byte.
+fn pointer(name: &[u8]) -> *const u8 {
+    if name.is_empty() {
+        std::ptr::null()
+    } else {
+        name.as_ptr()
+    }
+}
+
+/// The product's session calls, over a record lent by reference. A name must be as it was after the call.
 pub struct Product;
 
 impl Calls for Product {
@@ -189,6 +206,7 @@ impl Calls for Product {
         let s = &mut record_lent;
         let (c, n) = (lent.cells.as_mut_ptr(), lent.cells.len());
         let (j, m) = (lent.journal.as_mut_ptr(), lent.journal.len());
+        let name = name_of(call).to_vec();
         let reply = unsafe {
             match call {
                 Call::Set([x, y, z], id) => raw::pl_session_set(s, c, n, j, m, *x, *y, *z, *id),
@@ -197,11 +215,13 @@ impl Calls for Product {
                 }
                 Call::Batch(edits) => raw::pl_session_set_blocks(s, c, n, j, m, edits.as_ptr(), edits.len()),
                 Call::Undo => raw::pl_session_undo(s, c, n, j, m),
+                Call::Checkpoint(_) => raw::pl_session_checkpoint(s, j, m, pointer(&name), name.len()),
+                Call::Restore(_) => raw::pl_session_restore(s, c, n, j, m, pointer(&name), name.len()),
             }
         };
         lent.record = record(&record_lent);
         model::Reply {
-            number: reply.number,
+            number: number(reply.number, name == name_of(call)),
             line: reply.line,
             written: reply.written,
             previous: reply.previous,

@@ -197,6 +197,7 @@ pub fn held(
             && lent.cells == reference.cells()
             && lent.journal.get(..r.used) == Some(&reference.bytes[..])
             && r.active == reference.active.len()
+            && model::checkpoints(&lent) == reference.checkpoints
             && r.count as usize == crate::bare::non_air(&lent.cells);
         report.same(same, || {
             format!("{call:?}: the session is not the reference model, {reply:?} against {wanted:?}")
@@ -212,36 +213,58 @@ pub fn held(
 /// The next call on a session that goes on, after so many; none where it ends.
 pub type Next<'a> = &'a mut dyn FnMut(&mut Rng, &Lent, usize) -> Option<Call>;
 
-/// A session cut at every byte, with tails of zeros (SCOPE 9.2, 9.5): the reopened one has the cells, count, used bytes
-/// and active edits that the first one had after the last call whose line is whole. At one cut in eight both go on.
+/// A session cut at every byte, with tails of zeros (SCOPE 9.2, 9.5). At one cut in eight both tablets go on.
 pub fn cuts(report: &mut Report, rng: &mut Rng, calls: &impl Calls, states: &[Lent], next: Next) {
     let last = states.last().expect("a session has a state");
     for q in 0..=last.record.used {
-        let tail = rng.below(1 + (last.journal.len() - q).min(40) as u64) as usize;
-        let mut journal = last.journal[..q].to_vec();
-        journal.extend(vec![0; tail]);
-        journal.resize(last.journal.len(), b'U');
-        reopening(report, calls, &journal, q + tail, last.cells.len());
-        let whole = states.iter().rev().find(|s| s.record.used <= q);
-        let mut cells = vec![STALE; last.cells.len()];
-        let answer = calls.reopen(&journal, q + tail, &mut cells);
-        let same = match (&answer, whole) {
-            (Ok((record, _, _)), Some(s)) => *record == s.record && cells == s.cells,
-            (Err(r), None) => *r == model::refusal(10),
-            _ => false,
-        };
-        report.same(same, || {
-            format!("cut at {q}: the reopened session is not the first one, {answer:?}")
-        });
-        if let (Ok((record, _, _)), Some(first), true) = (answer, whole, rng.once_in(8)) {
-            let second = Lent {
-                record,
-                cells,
-                journal,
-            };
-            go_on(report, rng, calls, [second, first.clone()], next);
+        let torn = torn(rng, last, q);
+        if let (Some(both), true) = (cut(report, calls, states, q, torn), rng.once_in(8)) {
+            go_on(report, rng, calls, both, next);
         }
     }
+}
+
+/// A journal cut at a byte, and how many bytes it holds: some zeros behind the cut are held too. Behind these are other
+/// bytes or the old ones, which no call may read.
+pub fn torn(rng: &mut Rng, last: &Lent, q: usize) -> (Vec<u8>, usize) {
+    let tail = rng.below(1 + (last.journal.len() - q).min(40) as u64) as usize;
+    let held = if rng.once_in(3) { q } else { q + tail };
+    let mut journal = last.journal.clone();
+    journal[q..held].fill(0);
+    if rng.once_in(2) {
+        journal[held..].fill(b'U');
+    }
+    (journal, held)
+}
+
+/// A session cut at a byte: the reopened one has the cells, count, used bytes and active edits that the first one had
+/// after the last call whose line is whole. Answers the second tablet and the first, where a line is whole.
+pub fn cut(
+    report: &mut Report,
+    calls: &impl Calls,
+    states: &[Lent],
+    q: usize,
+    (journal, held): (Vec<u8>, usize),
+) -> Option<[Lent; 2]> {
+    let cells = states[0].cells.len();
+    reopening(report, calls, &journal, held, cells);
+    let whole = states.iter().rev().find(|s| s.record.used <= q);
+    let mut cells = vec![STALE; cells];
+    let answer = calls.reopen(&journal, held, &mut cells);
+    let same = match (&answer, whole) {
+        (Ok((record, _, _)), Some(s)) => *record == s.record && cells == s.cells,
+        (Err(r), None) => *r == model::refusal(10),
+        _ => false,
+    };
+    report.same(same, || {
+        format!("cut at {q}: the reopened session is not the first one, {answer:?}")
+    });
+    let second = Lent {
+        record: answer.ok()?.0,
+        cells,
+        journal,
+    };
+    Some([second, whole?.clone()])
 }
 
 /// Six calls of any kind.
@@ -307,7 +330,7 @@ fn wild(rng: &mut Rng) -> i64 {
 }
 
 /// A record, cells and journal that need not belong together.
-fn spoil(rng: &mut Rng, lent: &mut Lent) {
+pub fn spoil(rng: &mut Rng, lent: &mut Lent) {
     let r = &mut lent.record;
     match rng.below(14) {
         0 => r.site.seed = wild(rng) as u32,
@@ -345,7 +368,7 @@ fn spoil(rng: &mut Rng, lent: &mut Lent) {
         12 => {
             let i = rng.below(lent.journal.len().max(1) as u64) as usize;
             if let Some(b) = lent.journal.get_mut(i) {
-                *b = rng.pick(b"\n\tGSCBU0123-");
+                *b = rng.pick(b"\n\tGSCBUMR0123-ab");
             }
         }
         _ => {}
@@ -376,9 +399,9 @@ fn hostile(report: &mut Report, rng: &mut Rng, calls: &impl Calls, many: u64) {
     println!("hostile records: {done} calls, by refusal (0: accepted) {met:?}");
 }
 
-/// Cells that an undo is tried on beside the session's own: any, all equal, or moved along; and its own one id off, in
-/// this cell or in every one.
-fn others(rng: &mut Rng, own: &[u16], only: Option<usize>) -> [Vec<u16>; 2] {
+/// Cells that an undo or a restore is tried on beside the session's own: any, all equal, or moved along; and its own
+/// one id off, in this cell or in every one.
+pub fn others(rng: &mut Rng, own: &[u16], only: Option<usize>) -> [Vec<u16>; 2] {
     let mut far = own.to_vec();
     match rng.below(3) {
         0 => far.iter_mut().for_each(|c| *c = rng.below(12) as u16),

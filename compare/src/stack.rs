@@ -2,7 +2,7 @@
 //! paint is gone afterwards counts.
 use crate::chunk;
 use crate::ground::Site;
-use crate::model::{Call, Lent};
+use crate::model::{header, Call, Lent, Name, ACTIVE, JOURNAL};
 use crate::product::{self, Product};
 use crate::report::Report;
 use crate::rng::Rng;
@@ -76,6 +76,43 @@ fn session_of(calls: &impl Calls, site: Site, text: impl Fn(usize) -> String) ->
     }
 }
 
+/// The last of the names of `marks_journal`.
+pub fn last_name() -> Name {
+    Name::from("p")
+}
+
+/// A journal of exactly so many bytes: 256 short sets, sixteen names, and then M and R lines of the last name in turns.
+/// Each of them copies a list of 256 edits.
+pub fn marks_journal(site: &Site, used: usize) -> Vec<u8> {
+    let set = |k: usize| format!("S\t{}\t{}\t{}\t1\n", k % 10, k / 10 % 10, k / 100);
+    let mut text = header(site) + "\n";
+    text.extend((0..ACTIVE).map(set));
+    // The first name takes what lines of four bytes would leave.
+    let odd = (used - text.len()) % 4;
+    text += &format!("M\t{}\n", "a".repeat(1 + odd));
+    text.extend(('b'..='p').map(|name| format!("M\t{name}\n")));
+    let turns = ["M\tp\n", "R\tp\n"].iter().cycle();
+    text.extend(turns.take((used - text.len()) / 4).copied());
+    assert_eq!(text.len(), used, "a journal of so many bytes");
+    text.into_bytes()
+}
+
+/// A session on such a journal, which has room for one line of the last name and no more.
+pub fn marks_session(calls: &impl Calls, site: Site) -> Lent {
+    let mut cells = vec![0; site.chunk_size.pow(3)];
+    let mut journal = marks_journal(&site, JOURNAL - 4);
+    let (record, ..) = calls
+        .reopen(&journal, journal.len(), &mut cells)
+        .expect("a journal of its form");
+    assert_eq!(record.active, ACTIVE, "a session at its limits");
+    journal.resize(JOURNAL, 0);
+    Lent {
+        record,
+        cells,
+        journal,
+    }
+}
+
 /// Sixteen groups in a chunk of size 64.
 pub fn groups() -> Vec<u32> {
     (0..16).flat_map(|k| [k * 4, 63 - k, k * 3, k + 1]).collect()
@@ -97,6 +134,7 @@ pub fn site() -> Site {
 /// How many bytes each call takes at size 64, the greatest first.
 pub fn measure(report: &mut Report) -> Vec<(&'static str, usize)> {
     let long = long_session(&Product, site());
+    let marks = marks_session(&Product, site());
     let mut cells = long.cells.clone();
     let blocks = long.cells.clone();
     let count = long.record.count;
@@ -112,6 +150,8 @@ pub fn measure(report: &mut Report) -> Vec<(&'static str, usize)> {
     };
     let mut edits = [(); 4].map(|()| lent());
     let [set, column, batch, undo] = &mut edits;
+    let mut named = [(); 3].map(|()| marks.clone());
+    let [checkpoint, restore, undo_marks] = &mut named;
     let press = |lent: &mut Lent, call: &Call| keep(Product.call(lent, call));
     let column_call = Call::Column {
         x: 3,
@@ -159,11 +199,21 @@ pub fn measure(report: &mut Report) -> Vec<(&'static str, usize)> {
         press(batch, &Call::Batch(groups()))
     });
     note("undo", &mut || press(undo, &Call::Undo));
+    note("undo behind M and R lines", &mut || {
+        press(undo_marks, &Call::Undo)
+    });
+    note("checkpoint", &mut || {
+        press(checkpoint, &Call::Checkpoint(last_name()))
+    });
+    note("restore", &mut || press(restore, &Call::Restore(last_name())));
     note("fresh session", &mut || {
         keep(Product.fresh(&site(), &mut cells, &mut journal))
     });
     note("reopening", &mut || {
         keep(Product.reopen(&long.journal, long.record.used, &mut cells))
+    });
+    note("reopening of M and R lines", &mut || {
+        keep(Product.reopen(&marks.journal, marks.record.used, &mut cells))
     });
     note("committed prefix", &mut || {
         keep(Product.committed(&long.journal, long.record.used))
@@ -171,6 +221,11 @@ pub fn measure(report: &mut Report) -> Vec<(&'static str, usize)> {
     for (lent, name) in edits.iter().zip(["set", "column", "batch", "undo"]) {
         report.same(lent.record.used > long.record.used, || {
             format!("the session's {name} was refused on the small stack")
+        });
+    }
+    for (lent, name) in named.iter().zip(["checkpoint", "restore", "undo"]) {
+        report.same(lent.record.used > marks.record.used, || {
+            format!("the {name} behind M and R lines was refused on the small stack")
         });
     }
     all.sort_by_key(|&(_, bytes)| std::cmp::Reverse(bytes));

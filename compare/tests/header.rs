@@ -1,4 +1,5 @@
-//! hosts/rust/src/raw.rs is the header in Rust: the same records and functions, in the same order.
+//! hosts/rust/src/raw.rs is the header in Rust: the same records and functions, in the same order. Its numbers and
+//! limits are the header's.
 use std::fs;
 
 /// A file of the repository, without comments, directives and attributes, with single blanks.
@@ -93,4 +94,22 @@ fn the_functions() {
     let c: Vec<_> = c.collect();
     assert!(!c.is_empty(), "the header has functions");
     assert_eq!(c, rust.collect::<Vec<_>>());
+}
+
+#[test]
+fn the_numbers_and_limits() {
+    let (header, raw) = (text("include/perillahinge.h"), text("hosts/rust/src/raw.rs"));
+    let listed = header.replace(',', " ,");
+    let all: Vec<&str> = raw.split("pub const ").skip(1).collect();
+    assert!(!all.is_empty(), "raw.rs has numbers and limits");
+    for rest in all {
+        let (name, rest) = rest.split_once(": ").expect("a number has a type");
+        let value = rest
+            .split(['=', ';'])
+            .nth(1)
+            .expect("a number has a value")
+            .trim();
+        let same = format!(" {name} = {value} ");
+        assert!(listed.contains(&same), "the header has no{same}");
+    }
 }

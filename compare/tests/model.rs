@@ -589,6 +589,8 @@ fn every_slip_of_the_program_is_found() {
         "a short write is taken for a whole one",
         "an interrupted write fails",
         "a failed write is not reported",
+        "a checkpoint is refused",
+        "a restore has a number of its own",
     ];
     for slip in slips {
         assert!(faults_found(slip) > 0, "{slip}: not found");

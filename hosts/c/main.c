@@ -13,7 +13,7 @@
         }                                                                                                           \
     } while (0)
 
-enum { SIZE = 5, CELLS = SIZE * SIZE * SIZE, JOURNAL = 512, PRESSES = 8 };
+enum { SIZE = 5, CELLS = SIZE * SIZE * SIZE, JOURNAL = 512, PRESSES = 11 };
 
 /* Where the cells of a visit's two sets are. */
 enum { AT_1_2_3 = 1 + SIZE * (2 + SIZE * 3), AT_4_0_4 = 4 + SIZE * (0 + SIZE * 4) };
@@ -82,7 +82,20 @@ static size_t lines_in(const uint8_t *bytes, size_t n) {
     return lines;
 }
 
-/* The presses of a visit; each alters a cell and appends one line. */
+/* Lends a text as a name, without its NUL. */
+static pl_reply checkpoint(pl_session *s, uint8_t *journal, size_t lent, const char *name) {
+    return pl_session_checkpoint(s, journal, lent, (const uint8_t *)name, strlen(name));
+}
+
+static pl_reply restore(pl_session *s, uint16_t *cells, size_t n, uint8_t *journal, size_t lent, const char *name) {
+    return pl_session_restore(s, cells, n, journal, lent, (const uint8_t *)name, strlen(name));
+}
+
+/* The visit's checkpoint and its restore among the presses, and how many lines there are with the checkpoint's: the map
+ * after them is what "walls" remembers. */
+enum { CHECKPOINT = 4, RESTORE = 9, WALLS = CHECKPOINT + 2 };
+
+/* The presses of a visit; each appends one line, and each but the checkpoint alters a cell. */
 static pl_reply press(tablet *t, int k) {
     static const uint32_t groups[] = {0, 0, 0, 9, 4, 4, 4, 65536 + 3, 5, 0, 0, 1, 7};
     pl_session *s = &t->session;
@@ -95,15 +108,35 @@ static pl_reply press(tablet *t, int k) {
         return pl_session_set_blocks(s, t->cells, CELLS, t->journal, JOURNAL, groups, 13);
     case 3:
         return pl_session_undo(s, t->cells, CELLS, t->journal, JOURNAL);
-    case 4:
-        return pl_session_set(s, t->cells, CELLS, t->journal, JOURNAL, 4, 0, 4, 0);
+    case CHECKPOINT:
+        return checkpoint(s, t->journal, JOURNAL, "walls");
     case 5:
-        return pl_session_undo(s, t->cells, CELLS, t->journal, JOURNAL);
+        return pl_session_set(s, t->cells, CELLS, t->journal, JOURNAL, 4, 0, 4, 0);
     case 6:
         return pl_session_undo(s, t->cells, CELLS, t->journal, JOURNAL);
-    default:
+    case 7:
+        return pl_session_undo(s, t->cells, CELLS, t->journal, JOURNAL);
+    case 8:
         return pl_session_fill_column(s, t->cells, CELLS, t->journal, JOURNAL, 0, 4, 3, 300);
+    case RESTORE:
+        return restore(s, t->cells, CELLS, t->journal, JOURNAL, "walls");
+    default:
+        return pl_session_undo(s, t->cells, CELLS, t->journal, JOURNAL);
     }
+}
+
+/* A tablet with so many whole lines restores "walls", unless it has no line of it. */
+static void restores(const tablet *t, size_t lines, const tablet *maps) {
+    tablet next = *t;
+    const tablet *walls = &maps[WALLS - 1];
+    const pl_reply r = restore(&next.session, next.cells, CELLS, next.journal, JOURNAL, "walls");
+    if (lines < WALLS) {
+        CHECK(refused(r, PL_UNKNOWN_NAME) && same_map(&next, t));
+        return;
+    }
+    CHECK(tells(r, 0, 0, differing(t->cells, walls->cells, CELLS)));
+    CHECK(memcmp(next.cells, walls->cells, sizeof next.cells) == 0 && next.session.count == walls->session.count);
+    CHECK(next.session.active == walls->session.active && next.session.used == t->session.used + 8);
 }
 
 /* The next tablet gets the first q bytes, then zeros, and must have the map of the last whole line. */
@@ -127,6 +160,9 @@ static void take_over(const storage *file, size_t q, const tablet *maps) {
     CHECK(start.trailing == held - start.session.used);
     CHECK(pl_committed_len(next.journal, JOURNAL, held) == start.session.used);
 
+    /* It has the checkpoint too, unless its line was cut off. */
+    restores(&next, lines, maps);
+
     /* It goes on from there. A press that puts the id that is there changes nothing. */
     pl_session *s = &next.session;
     const uint16_t before = next.cells[AT_1_2_3];
@@ -143,6 +179,7 @@ static void take_over(const storage *file, size_t q, const tablet *maps) {
 
 /* A refused call changes nothing. */
 static void refusals(const tablet *last) {
+    static const char *const bad[] = {"", "abcdefghijklmnopq", "Walls", "walls done", "walls\n", "a\tb", "caf\xc3\xa9"};
     tablet t = *last;
     const uint32_t many[68] = {0};
     pl_session *s = &t.session;
@@ -152,14 +189,31 @@ static void refusals(const tablet *last) {
     CHECK(refused(pl_session_set(s, t.cells, CELLS - 1, t.journal, JOURNAL, 0, 0, 0, 1), PL_RECORD));
     CHECK(refused(pl_session_set(s, NULL, 0, NULL, 0, 0, 0, 0, 1), PL_RECORD));
     CHECK(tells(pl_session_fill_column(s, t.cells, CELLS, t.journal, JOURNAL, SIZE, 0, 3, 1), 0, 0, 0));
+    for (size_t i = 0; i < sizeof bad / sizeof *bad; i++) {
+        CHECK(refused(checkpoint(s, t.journal, JOURNAL, bad[i]), PL_NAME));
+        CHECK(refused(restore(s, t.cells, CELLS, t.journal, JOURNAL, bad[i]), PL_NAME));
+    }
+    CHECK(refused(pl_session_checkpoint(s, t.journal, JOURNAL, NULL, 0), PL_NAME));
+    /* A name with the NUL behind it. */
+    CHECK(refused(pl_session_checkpoint(s, t.journal, JOURNAL, (const uint8_t *)"walls", 6), PL_NAME));
+    CHECK(refused(restore(s, t.cells, CELLS, t.journal, JOURNAL, "roof"), PL_UNKNOWN_NAME));
+    CHECK(refused(restore(s, t.cells, CELLS - 1, t.journal, JOURNAL, "Roof"), PL_RECORD));
+    CHECK(refused(checkpoint(s, t.journal, t.session.used - 1, "Roof"), PL_RECORD));
+    /* The line of "walls" has 8 bytes. */
+    CHECK(refused(checkpoint(s, t.journal, t.session.used + 7, "walls"), PL_FULL));
+    CHECK(refused(restore(s, t.cells, CELLS, t.journal, t.session.used + 7, "walls"), PL_FULL));
     CHECK(same_map(&t, last) && memcmp(t.journal, last->journal, JOURNAL) == 0);
 
     t.journal[0] = 'H';
     CHECK(refused(pl_session_undo(s, t.cells, CELLS, t.journal, JOURNAL), PL_USED_BYTES));
+    CHECK(refused(checkpoint(s, t.journal, JOURNAL, "walls"), PL_USED_BYTES));
+    CHECK(refused(restore(s, t.cells, CELLS, t.journal, JOURNAL, "roof"), PL_USED_BYTES));
+    CHECK(refused(restore(s, t.cells, CELLS, t.journal, JOURNAL, "Roof"), PL_NAME));
     const pl_start start = pl_session_reopen(t.cells, CELLS, t.journal, JOURNAL, s->used);
     CHECK(start.number == PL_FIRST_LINE && start.line == 1 && start.session.config.chunk_size == 0);
     t.session = start.session;
     CHECK(refused(pl_session_undo(s, t.cells, CELLS, t.journal, JOURNAL), PL_RECORD));
+    CHECK(refused(checkpoint(s, t.journal, JOURNAL, "walls"), PL_RECORD));
     CHECK(memcmp(t.cells, last->cells, sizeof t.cells) == 0);
 }
 
@@ -280,6 +334,109 @@ static void older(void) {
     CHECK(refused(pl_session_undo(&t.session, t.cells, 8, t.journal, JOURNAL), PL_NOTHING_ACTIVE));
 }
 
+/* Whether the eight cells of a map hold these ids. */
+static int holds(const small *t, const uint16_t *wanted) {
+    return memcmp(t->cells, wanted, sizeof t->cells) == 0 && t->session.count == nonzero(wanted, 8);
+}
+
+/* Two walls of stone (1), a roof of logs (8) that is tried, and back to the walls: on eight cells of water (5), worked
+ * out by hand. Then a cut in the last line, and the next tablet goes on. */
+static void walls_and_roof(void) {
+    static const uint32_t logs[] = {0, 1, 0, 8, 1, 1, 0, 8, 0, 1, 1, 8, 1, 1, 1, 8};
+    static const uint16_t walls[8] = {1, 5, 5, 5, 5, 1, 5, 5}, roof[8] = {1, 5, 8, 8, 5, 1, 8, 8};
+    static const uint16_t moved[8] = {1, 7, 5, 5, 5, 5, 5, 5};
+    static const char text[] = "G\t0\t4096\t256\t2\t0\t128\t0\nC\t0\t0\t1\t1\nC\t1\t1\t1\t1\nM\twalls\n"
+                               "B\t4\t0\t1\t0\t8\t1\t1\t0\t8\t0\t1\t1\t8\t1\t1\t1\t8\nM\troof\n"
+                               "S\t0\t0\t0\t0\nR\twalls\nR\twalls\n";
+    const pl_config config = {0, 4096, 256, 2};
+    const pl_pos pos = {0, 128, 0};
+    const size_t n = sizeof text - 1;
+    small t;
+    memset(&t, 0, sizeof t);
+    pl_session *s = &t.session;
+    *s = pl_session_fresh(config, pos, t.cells, 8, t.journal, JOURNAL).session;
+    CHECK(refused(restore(s, t.cells, 8, t.journal, JOURNAL, "walls"), PL_UNKNOWN_NAME));
+    CHECK(tells(pl_session_fill_column(s, t.cells, 8, t.journal, JOURNAL, 0, 0, 1, 1), 0, 0, 1));
+    CHECK(tells(pl_session_fill_column(s, t.cells, 8, t.journal, JOURNAL, 1, 1, 1, 1), 0, 0, 1));
+    CHECK(tells(checkpoint(s, t.journal, JOURNAL, "walls"), 0, 0, 0));
+    CHECK(tells(pl_session_set_blocks(s, t.cells, 8, t.journal, JOURNAL, logs, 16), 4, 0, 4) && holds(&t, roof));
+    CHECK(tells(checkpoint(s, t.journal, JOURNAL, "roof"), 0, 0, 0));
+    /* A door: stone becomes air. The restore alters the four logs and the door, then nothing; it has its line. */
+    CHECK(tells(pl_session_set(s, t.cells, 8, t.journal, JOURNAL, 0, 0, 0, 0), 0, 1, 1) && s->active == 4);
+    CHECK(tells(restore(s, t.cells, 8, t.journal, JOURNAL, "walls"), 0, 0, 5) && holds(&t, walls));
+    CHECK(tells(restore(s, t.cells, 8, t.journal, JOURNAL, "walls"), 0, 0, 0) && holds(&t, walls));
+    CHECK(s->active == 2 && s->used == n && memcmp(t.journal, text, n) == 0);
+
+    memset(t.cells, 0xee, sizeof t.cells);
+    const pl_start start = pl_session_reopen(t.cells, 8, t.journal, JOURNAL, n - 3);
+    CHECK(start.number == PL_OK && start.lines == 8 && start.trailing == 5);
+    *s = start.session;
+    CHECK(s->active == 2 && holds(&t, walls));
+    /* A later checkpoint stays when an earlier one is restored. */
+    CHECK(tells(restore(s, t.cells, 8, t.journal, JOURNAL, "roof"), 0, 0, 4) && holds(&t, roof));
+    CHECK(tells(restore(s, t.cells, 8, t.journal, JOURNAL, "walls"), 0, 0, 4) && holds(&t, walls));
+    /* Undone is the last edit that came back, the second wall. */
+    CHECK(tells(pl_session_undo(s, t.cells, 8, t.journal, JOURNAL), 0, 0, 1) && s->active == 1);
+    CHECK(tells(pl_session_set(s, t.cells, 8, t.journal, JOURNAL, 1, 0, 0, 7), 0, 5, 1));
+    /* The name moves. The roof differs in its four logs, in (1, 0, 0) and in the second wall. */
+    CHECK(tells(checkpoint(s, t.journal, JOURNAL, "walls"), 0, 0, 0));
+    CHECK(tells(restore(s, t.cells, 8, t.journal, JOURNAL, "roof"), 0, 0, 6) && holds(&t, roof));
+    CHECK(tells(restore(s, t.cells, 8, t.journal, JOURNAL, "walls"), 0, 0, 6) && holds(&t, moved));
+    CHECK(tells(checkpoint(s, t.journal, JOURNAL, "a16bytenamefits0"), 0, 0, 0) && s->active == 2);
+}
+
+/* Sixteen names and a seventeenth, where 256 edits are active: names are not among these. */
+static void many_names(void) {
+    static uint8_t journal[4096];
+    const pl_config config = {0, 4096, 256, 2};
+    const pl_pos pos = {0, 128, 0};
+    uint16_t cells[8];
+    char name[] = "a";
+    pl_session s = pl_session_fresh(config, pos, cells, 8, journal, sizeof journal).session;
+    for (uint16_t k = 0; k < PL_ACTIVE_MOST; k++)
+        CHECK(pl_session_set(&s, cells, 8, journal, sizeof journal, 0, 0, 0, (uint16_t)(100 + k)).number == PL_OK);
+    CHECK(refused(pl_session_set(&s, cells, 8, journal, sizeof journal, 0, 0, 0, 1), PL_FULL));
+    for (; *name < 'a' + PL_NAMES_MOST; ++*name)
+        CHECK(tells(checkpoint(&s, journal, sizeof journal, name), 0, 0, 0));
+    CHECK(refused(checkpoint(&s, journal, sizeof journal, "q"), PL_MANY_NAMES));
+    CHECK(refused(checkpoint(&s, journal, s.used, "q"), PL_MANY_NAMES));
+    CHECK(refused(restore(&s, cells, 8, journal, s.used, "q"), PL_UNKNOWN_NAME));
+    CHECK(tells(restore(&s, cells, 8, journal, sizeof journal, "p"), 0, 0, 0) && s.active == PL_ACTIVE_MOST);
+    /* What is undone is the last edit, not a checkpoint: 355 becomes 354. A known name moves. */
+    CHECK(tells(pl_session_undo(&s, cells, 8, journal, sizeof journal), 0, 0, 1) && cells[0] == 354);
+    CHECK(tells(checkpoint(&s, journal, sizeof journal, "a"), 0, 0, 0));
+    CHECK(tells(restore(&s, cells, 8, journal, sizeof journal, "p"), 0, 0, 1) && cells[0] == 355);
+    /* Four bytes are enough for a name of one. */
+    CHECK(refused(restore(&s, cells, 8, journal, s.used + 3, "a"), PL_FULL));
+    CHECK(tells(restore(&s, cells, 8, journal, s.used + 4, "a"), 0, 0, 1) && cells[0] == 354);
+    CHECK(s.active == PL_ACTIVE_MOST - 1);
+}
+
+/* In a stored journal a name that no line before has, a bad one and a seventeenth are each 12, with their line. */
+static void stored_names(void) {
+    static const struct {
+        const char *lines;
+        size_t line;
+    } bad[] = {
+        {"M\twalls\nR\troof\n", 3},
+        {"R\twalls\nM\twalls\n", 2},
+        {"M\twalls\nM\tWalls\n", 3},
+        {"M\t\n", 2},
+        {"M\twalls\t\n", 2},
+        {"M\ta\nS\t0\t0\t0\t9\nR\ta\nU\n", 5},
+        {"M\ta\nM\tb\nM\tc\nM\td\nM\te\nM\tf\nM\tg\nM\th\nM\ti\nM\tj\nM\tk\nM\tl\nM\tm\nM\tn\nM\to\nM\tp\n"
+         "M\ta\nM\tq\n",
+         19},
+    };
+    for (size_t i = 0; i < sizeof bad / sizeof *bad; i++) {
+        uint8_t text[JOURNAL];
+        uint16_t cells[8];
+        const int n = snprintf((char *)text, sizeof text, "G\t0\t4096\t256\t2\t0\t128\t0\n%s", bad[i].lines);
+        const pl_start start = pl_session_reopen(cells, 8, text, sizeof text, (size_t)n);
+        CHECK(start.number == PL_LATER_LINE && start.line == bad[i].line);
+    }
+}
+
 /* Tallies of eight cells, worked out by hand: ids that do not stand in ascending order, one id, none. The lists hold 7
  * before, and keep it past the ids. */
 static void tallies(void) {
@@ -318,13 +475,18 @@ int main(void) {
 
     for (int k = 0; k < PRESSES; k++) {
         const uint16_t *before = maps[k].cells;
-        const uint16_t replaced = k == 0 ? before[AT_1_2_3] : k == 4 ? before[AT_4_0_4] : 0;
+        const uint16_t replaced = k == 0 ? before[AT_1_2_3] : k == 5 ? before[AT_4_0_4] : 0;
         const pl_reply r = press(&t, k);
-        CHECK(tells(r, k == 2 ? 2 : 0, replaced, differing(before, t.cells, CELLS)) && r.altered > 0);
+        CHECK(tells(r, k == 2 ? 2 : 0, replaced, differing(before, t.cells, CELLS)));
+        CHECK((r.altered == 0) == (k == CHECKPOINT));
         CHECK(t.session.count == nonzero(t.cells, CELLS));
         store(&file, &t);
         maps[k + 1] = t;
     }
+    /* After the restore two edits are active, and the undo behind it leaves the first. */
+    CHECK(memcmp(maps[RESTORE + 1].cells, maps[CHECKPOINT].cells, sizeof t.cells) == 0);
+    CHECK(memcmp(t.cells, maps[1].cells, sizeof t.cells) == 0);
+    CHECK(maps[RESTORE + 1].session.active == 2 && t.session.active == 1);
 
     /* A cut can come at any byte. */
     for (size_t q = 0; q <= file.confirmed; q++)
@@ -334,6 +496,9 @@ int main(void) {
     example();
     worked_out();
     older();
+    walls_and_roof();
+    many_names();
+    stored_names();
     tallies();
     printf("host in %s: %zu bytes, a cut at each, the map is there\n",
 #ifdef __cplusplus

@@ -4,7 +4,7 @@
 //!   bench instructions       how many instructions each side takes, counted by valgrind
 //!   bench count N SIDE       runs one side of a workload once, for valgrind
 use compare::ground::{height_at, Laid, Site};
-use compare::model::{Call, Lent};
+use compare::model::{Call, Lent, JOURNAL};
 use compare::native::{self, Native};
 use compare::product::{self, Product};
 use compare::report::Report;
@@ -281,8 +281,9 @@ fn presses<'a>() -> Vec<Workload<'a>> {
     // An undo lays the same map each time, and from the second on finds it there.
     let undo = |start: &Lent| in_turns(start, [Call::Undo, Call::Undo], 0);
     let batches = stack::batches_session(&Product, site);
-    let opened = start.clone();
-    let cells = RefCell::new(start.cells.clone());
+    // The last name is moved, and restored to the edits that are active: the line fills the journal.
+    let marks = stack::marks_session(&Product, site);
+    let again = |call: Call| in_turns(&marks, [call.clone(), call], 0);
     vec![
         row("session set", 1000, set),
         row("session column of 64", 1000, column),
@@ -298,12 +299,34 @@ fn presses<'a>() -> Vec<Workload<'a>> {
         row(
             "reopening of 32 KiB",
             1,
-            Box::new(move |_| {
-                let answer = Product.reopen(&opened.journal, opened.record.used, &mut cells.borrow_mut());
-                answer.expect("a journal as it was written").1 as f64
-            }),
+            reopening(start.journal, start.record.used),
+        ),
+        row("undo behind M and R lines", 1, undo(&marks)),
+        row(
+            "checkpoint behind M and R lines",
+            1,
+            again(Call::Checkpoint(stack::last_name())),
+        ),
+        row(
+            "restore behind M and R lines",
+            1,
+            again(Call::Restore(stack::last_name())),
+        ),
+        row(
+            "reopening of M and R lines",
+            1,
+            reopening(stack::marks_journal(&site, JOURNAL), JOURNAL),
         ),
     ]
+}
+
+/// A journal of size 64 that is reopened.
+fn reopening(journal: Vec<u8>, used: usize) -> Press {
+    let cells = RefCell::new(vec![0; 64 * 64 * 64]);
+    Box::new(move |_| {
+        let answer = Product.reopen(&journal, used, &mut cells.borrow_mut());
+        answer.expect("a journal as it was written").1 as f64
+    })
 }
 
 /// One generation of a chunk by the product.
@@ -345,8 +368,9 @@ fn counted(number: usize) -> Option<Taken> {
 }
 
 const SESSIONS: &str =
-    "Calls of a session with 255 active edits and a journal of 32 KiB, at size 64 and the surface. The
-other side is one generation of that chunk by the product itself.";
+    "Calls of a session with 255 active edits and a journal of 32 KiB, at size 64 and the surface; behind
+M and R lines these are 256 edits, 16 names, and lines of the last name in turns. The other side is one
+generation of that chunk by the product itself.";
 
 /// A line of a table for the screen.
 fn line(w: &Workload, t: &Taken) -> String {

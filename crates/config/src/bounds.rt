@@ -38,3 +38,9 @@ pub const GROUPS_MOST: usize = 16;
 
 // The numbers of a journal's line, at most: a batch's has one for the groups and four for each of them.
 pub const NUMBERS_MOST: usize = 1 + 4 * GROUPS_MOST;
+
+// The bytes of a checkpoint's name, at most.
+pub const NAME_MOST: usize = 16;
+
+// The names of a journal's checkpoints, at most.
+pub const NAMES_MOST: usize = 16;

@@ -54,5 +54,14 @@ pub const NOTHING_ACTIVE: u32 = 23;
 // There is no space for the line, or 256 edits are active.
 pub const FULL: u32 = 24;
 
+// The name is not 1 to 16 of a to z and 0 to 9.
+pub const NAME: u32 = 25;
+
+// No checkpoint has the name.
+pub const UNKNOWN_NAME: u32 = 26;
+
+// The name would be a seventeenth.
+pub const MANY_NAMES: u32 = 27;
+
 // The number names no face: of the C interface alone.
 pub const FACE: u32 = 99;

@@ -14,7 +14,7 @@ use Rattle.grid.specs.Cube.{inside, putAt, seeAt}
 use Rattle.grid.specs.Count.{nonAirCount}
 use Rattle.journal_format.specs.Fields.{fields, joinTabs, wholeOf, integerOf, integersOf, taggedOf}
 use Rattle.journal_format.specs.Line.{set, cellOk, setOf, columnOk, columnOf, lineOf, headerOf}
-use Rattle.journal_format.specs.Journal.{linesFrom, lines, committed, afterLine, active, read, follow}
+use Rattle.journal_format.specs.Journal.{linesFrom, lines, committed, afterLine, active, noneActive, read, follow}
 use Rattle.ground.specs.Ground.{ground}
 use Rattle.journal_open.specs.Opens.{openingOf}
 use Rattle.journal_open.specs.declared.Opening.the-variants.{Opens}
@@ -57,7 +57,7 @@ unfolding openingOf lines linesFrom committed headerOf taggedOf fields integersO
     placesOk placeOk
 opens = refl
 
-later : follow 2 2 (active []) (lines (drop 23 (take 45 listingJournal))) ≡ read (active (set 0 0 0 0 ∷ []))
+later : follow 2 2 noneActive (lines (drop 23 (take 45 listingJournal))) ≡ read (active (set 0 0 0 0 ∷ []) [])
 unfolding follow afterLine lines linesFrom lineOf taggedOf fields integersOf integerOf wholeOf setOf cellOk columnOf columnOk
 later = refl
 

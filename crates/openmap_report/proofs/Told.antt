@@ -14,7 +14,7 @@ use Rattle.config.specs.declared.Header.{Header}
 use Rattle.config.specs.declared.TerrainConfig.{TerrainConfig}
 use Rattle.config.specs.declared.ChunkPos.{ChunkPos}
 use Rattle.config.specs.Limits.{limitRefusal}
-use Rattle.journal_format.specs.Journal.{lines, Read, read, bad, active, follow}
+use Rattle.journal_format.specs.Journal.{lines, Read, read, bad, follow, noneActive}
 use Rattle.journal_open.specs.Opens.{openingOf}
 use Rattle.journal_open.specs.declared.Opening.{Opening}
 use Rattle.journal_open.specs.declared.Opening.the-variants.{Opens, Refused as Shut}
@@ -48,7 +48,7 @@ by-header c used trailing h ls z =
     by-bool (eqb (length c) (cube (natAbs (h .«chunk_size»))))
     (λ t. subst (λ (r : Resumed). SizedBy (r .answer) (length c))
     (sym (open-with c used trailing h ls z (eqb-true _ _ t)))
-    (with-read c (configOf h) (posOf h) used (suc (length ls)) trailing (size-natural h z) (eqb-true _ _ t) (follow (natAbs (h .«chunk_size»)) 2 (active []) ls)))
+    (with-read c (configOf h) (posOf h) used (suc (length ls)) trailing (size-natural h z) (eqb-true _ _ t) (follow (natAbs (h .«chunk_size»)) 2 noneActive ls)))
     (λ f. subst (λ (r : Resumed). SizedBy (r .answer) (length c)) (sym (open-six c used trailing h ls z (eqb-false _ _ f))) tt)
 
 by-opening : (c j : List ℕ) (held : ℕ) (o : Opening) → openingOf j held ≡ o → SizedBy (fromOpening c j held o .answer) (length c)

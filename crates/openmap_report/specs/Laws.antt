@@ -16,7 +16,7 @@ use Rattle.config.specs.declared.ChunkPos.{ChunkPos}
 use Rattle.grid.specs.Count.{nonAirCount}
 use Rattle.ground.specs.Ground.{ground}
 use Rattle.journal_format.specs.Fields.{joinTabs}
-use Rattle.journal_format.specs.Journal.{lines, Read, read, bad, active, follow}
+use Rattle.journal_format.specs.Journal.{lines, Read, read, bad, noneActive, follow}
 use Rattle.journal_format.specs.Written.{written, take-written}
 use Rattle.basics.specs.Bools.{pick}
 use Rattle.text.specs.Decimal.{decimal, decimalF}
@@ -97,7 +97,7 @@ module _ (j : List ℕ) (held : ℕ) (c : List ℕ) (enough : 4096 ≤ length c)
     pub later-decide : natAbs (h .«chunk_size») ≤ 16
         → sessionReopenDoes (take (lentCells j held) c) j held
         ≡ openWith (configOf h) (posOf h) n (suc (length (lines (drop second (take n j))))) (held - n) (take (lentCells j held) c)
-        (follow (natAbs (h .«chunk_size»)) 2 (active []) (lines (drop second (take n j))))
+        (follow (natAbs (h .«chunk_size»)) 2 noneActive (lines (drop second (take n j))))
     later-decide small =
         reopen-is (take (lentCells j held) c) j held
         ∙ ap (fromOpening (take (lentCells j held) c) j held) e
@@ -107,7 +107,7 @@ module _ (j : List ℕ) (held : ℕ) (c : List ℕ) (enough : 4096 ≤ length c)
     pub never-6 : natAbs (h .«chunk_size») ≤ 16 → (line : ℕ) → printed j held c ≡ noText 6 line → ⊥
     never-6 small line p =
         later-not-6 (configOf h) (posOf h) n (suc (length (lines (drop second (take n j))))) (held - n) (take (lentCells j held) c) line
-        (follow (natAbs (h .«chunk_size»)) 2 (active []) (lines (drop second (take n j))))
+        (follow (natAbs (h .«chunk_size»)) 2 noneActive (lines (drop second (take n j))))
         (sym (ap reportText (later-decide small)) ∙ p)
 
 -- ---- the first bytes of the buffer, as many as the answer says, are the text

@@ -1,7 +1,8 @@
 -- SCOPE 9.6: for every accepted journal, the calls that its lines say, given to the reference model with a lent length of at least the committed
--- prefix, are refused nowhere and leave exactly those bytes and the active edits: with the older writer, and where no line is an idle edit with the
--- present one. Assumes nothing.
+-- prefix, are refused nowhere and leave exactly those bytes, the active edits and the checkpoints: with the older writer, and where no line is an idle
+-- edit with the present one. Assumes nothing.
 use mathlib.Core.Path.{_≡_, refl, sym, _∙_, ap, subst}
+use mathlib.Core.Bool.{true}
 use mathlib.Core.List.{List, [], _∷_, _++_, append-assoc, append-nil, map}
 use mathlib.Core.Option.{Option, some, none, Option·some-injective}
 use Prim.Native.Nat.{ℕ, _+_, _≤_}
@@ -19,11 +20,13 @@ use Rattle.config.specs.Limits.{configHeader, limitRefusal}
 use Rattle.grid.specs.Grid.{in-all}
 use Rattle.grid_edits.specs.Edits.{Group}
 use Rattle.ground.specs.Ground.{ground}
-use Rattle.journal_format.specs.Line.{Edit, set, column, batch, headerText, editText, undoText, ended, Line, edits, undoes, wrong, headerOf, lineOf}
-use Rattle.journal_format.specs.Journal.{lines, committed, Active, active, dropLast, afterLine, read, follow}
+use Rattle.journal_format.specs.Names.{nameOk}
+use Rattle.journal_format.specs.Line.{Edit, set, column, batch, headerText, editText, undoText, checkpointText, restoreText, ended, headerOf, lineOf}
+use Rattle.journal_format.specs.Line.{Line, edits, undoes, checkpoints, restores, wrong}
+use Rattle.journal_format.specs.Journal.{lines, committed, Active, active, noneActive, joins, dropLast, afterLine, read, follow}
+use Rattle.journal_format.specs.Checkpoints.{restore-remembered}
 use Rattle.journal_format.specs.Lines.{join, committed-le, take-committed}
 use Rattle.journal_format.specs.RoundTrip.{EditOk}
-use Rattle.journal_format.specs.Sizes.{undo-length}
 use Rattle.journal_format.specs.Batches.{batchArgs, batch-args, batch-given}
 use Rattle.journal_format.specs.Writer.{saidText, LineOk, AllLineOk, onSome, afterAll, follow-said}
 use Rattle.session_calls.specs.Asked.{Asked, asks, clip, setAsks, columnAsks, batchLine, batchAsks}
@@ -35,10 +38,11 @@ use Rattle.session_calls.specs.declared.Reopened.{Reopened}
 use Rattle.session_calls.specs.declared.Reopened.the-variants.{Opened}
 use Rattle.session_calls.specs.declared.Reply.{Reply}
 use Rattle.takeover_model.specs.Model.{Call, Model, Ran, modelSize, cellsWith, modelCells, modelFresh, left, askedBy, Writer, olderEdit}
-use Rattle.takeover_model.specs.Model.{modelEdit, modelUndo, stepBy, runBy, repliesBy}
+use Rattle.takeover_model.specs.Model.{modelEdit, modelRelay, modelUndo, modelRestore, savedAs, roomForNames, modelCheckpoint, stepBy, runBy, repliesBy}
 use Rattle.takeover_model.specs.Model as M
 use Rattle.takeover_model.specs.Asks.{set-same, column-same, batch-same}
 use Rattle.takeover_model.specs.Statement.{laterLines}
+use Rattle.takeover_model.specs.Steps.{saved-same}
 use Rattle.takeover_model.specs.Cut.{Same, same-trans}
 use Rattle.takeover_model.specs.Opened.{opened-start}
 use Rattle.takeover_model.specs.Alters.{Alters, LineAlters, ThenOn, EachLine, LaterAlter, older-same}
@@ -51,6 +55,8 @@ callOf size (edits (set x y z id)) p = M.set x y z id (p .id)
 callOf size (edits (column x z height id)) p = M.column x z height id (p .id)
 callOf size (edits (batch gs)) p = M.batch (batchArgs gs)
 callOf size undoes p = M.undo
+callOf size (checkpoints n) p = M.checkpoint n
+callOf size (restores n) p = M.restore n
 callOf size wrong p = absurd p
 
 -- .. and several of them
@@ -104,27 +110,55 @@ older-gives m e b a h =
     (record {
       accepted = refl;
       bytes = refl;
-      active = Option·some-injective (active (e ∷ m .active .edits)) b (rw f at a);
+      active = Option·some-injective (joins (m .active) e) b (rw f at a);
       same = record { config = refl; place = refl; borrowed = refl };
     }))
     (λ f. never b (rw f at a))
 
-undo-gives : (m : Model) (b : Active) (es : List Edit) → dropLast es ≡ some b → length (ended undoText) ≤ left m → Gives m (modelUndo m es) b undoText
+-- the map laid anew with es
+relay-gives : (m : Model) (es : List Edit) (l : List ℕ) → length (ended l) ≤ left m
+    → Gives m (modelRelay m es (ended l)) (active es (m .active .checkpoints)) l
+unfolding modelRelay
+relay-gives m es l h =
+    rw (le-leb (length (ended l)) (left m) h)
+    (record { accepted = refl; bytes = refl; active = refl; same = record { config = refl; place = refl; borrowed = refl } })
+
+undo-gives : (m : Model) (b : Active) (es : List Edit) → dropLast (m .active .checkpoints) es ≡ some b → length (ended undoText) ≤ left m
+    → Gives m (modelUndo m es) b undoText
 unfolding modelUndo
 undo-gives m b [] a h = never b a
 undo-gives m b (e ∷ es) a h =
-    let two : 2 ≤ left m = (let l = length-append undoText (10 ∷ []) in let u = undo-length in omega arith) in
-    rw (le-leb 2 (left m) two)
+    subst (λ (x : Active). Gives m (modelRelay m es (ended undoText)) x undoText) (Option·some-injective (active es (m .active .checkpoints)) b a)
+    (relay-gives m es undoText h)
+
+after-undo : (a b : Active) → afterLine a undoes ≡ some b → dropLast (a .checkpoints) (a .edits) ≡ some b
+unfolding afterLine
+after-undo a b e = e
+
+-- a line M or R that is allowed where it is: none of 25, 26 and 27 refuses its call
+restore-gives : (m : Model) (n : List ℕ) (b : Active) → nameOk n ≡ true → afterLine (m .active) (restores n) ≡ some b
+    → length (ended (restoreText n)) ≤ left m → Gives m (modelRestore m n) b (restoreText n)
+unfolding modelRestore
+restore-gives m n b k a h =
+    let q = restore-remembered (m .active) b n a in
+    rw (k, q .0)
+    (subst (λ (x : Active). Gives m (modelRelay m (b .edits) (ended (restoreText n))) x (restoreText n)) (ap (active (b .edits)) (sym (q .1)))
+    (relay-gives m (b .edits) (restoreText n) h))
+
+checkpoint-gives : (m : Model) (n : List ℕ) (b : Active) → nameOk n ≡ true → afterLine (m .active) (checkpoints n) ≡ some b
+    → length (ended (checkpointText n)) ≤ left m → Gives m (modelCheckpoint m n) b (checkpointText n)
+unfolding modelCheckpoint
+checkpoint-gives m n b k a h =
+    let q = sym (saved-same m n) ∙ a in
+    by-bool (roomForNames (savedAs m n))
+    (λ e. rw (k, e, le-leb (length (ended (checkpointText n))) (left m) h)
     (record {
       accepted = refl;
       bytes = refl;
-      active = Option·some-injective (active es) b a;
+      active = Option·some-injective (active (m .active .edits) (savedAs m n)) b (rw e at q);
       same = record { config = refl; place = refl; borrowed = refl };
-    })
-
-after-undo : (a b : Active) → afterLine a undoes ≡ some b → dropLast (a .edits) ≡ some b
-unfolding afterLine
-after-undo a b e = e
+    }))
+    (λ e. never b (rw e at q))
 
 -- ---- all lines, by a writer w that writes those of which `Ok` holds as the older writer does; `from` is the model at the start
 
@@ -145,6 +179,8 @@ module _ (w : Writer) (Ok : Active → Line → Type 0) (from : Model)
   line-gives m (edits (batch gs)) p b s o a h =
       line-asked m (batch gs) _ b (asked-line (modelSize m) (batch gs) p) s o a h
   line-gives m undoes p b s o a h = undo-gives m b (m .active .edits) (after-undo (m .active) b a) h
+  line-gives m (checkpoints n) p b s o a h = checkpoint-gives m n b p a h
+  line-gives m (restores n) p b s o a h = restore-gives m n b p a h
   line-gives m wrong p b s o a h = absurd p
 
   -- from the model m on, the calls ks are all accepted, append the text t and leave b active
@@ -206,7 +242,7 @@ pub record Accepted (w : Writer) (s : List ℕ) (config : TerrainConfig) (place 
   pub accepted : AllAccepted (repliesBy w (modelFresh config place borrowed) (callsOf (config .«chunk_size») said good))
   -- the bytes are the committed prefix
   pub bytes : runBy w (modelFresh config place borrowed) (callsOf (config .«chunk_size») said good) .bytes ≡ take (committed s) s
-  -- and the active edits are the journal's
+  -- and the active edits are the journal's, and the checkpoints
   pub active : runBy w (modelFresh config place borrowed) (callsOf (config .«chunk_size») said good) .active ≡ b
 
 -- SCOPE 9.6
@@ -238,7 +274,7 @@ present-as-older from m e s p =
 -- ---- the proof: from G's line and good lines behind it
 
 module _ (config : TerrainConfig) (place : ChunkPos) (s : List ℕ) (ls : List (List ℕ)) (b : Active)
-    (whole : lines s ≡ headerText (configHeader config place) ∷ ls) (reads : follow (config .«chunk_size») 2 (active []) ls ≡ read b)
+    (whole : lines s ≡ headerText (configHeader config place) ∷ ls) (reads : follow (config .«chunk_size») 2 noneActive ls ≡ read b)
     (borrowed : ℕ) (fits : committed s ≤ borrowed) where
   -- the model that it began as
   abbrev new : Model
@@ -246,12 +282,12 @@ module _ (config : TerrainConfig) (place : ChunkPos) (s : List ℕ) (ls : List (
 
   written-by : (w : Writer) (Ok : Active → Line → Type 0)
       → ((n : Model) (e : Edit) → Same new n → Ok (n .active) (edits e) → w n (asks e) ≡ olderEdit n (asks e))
-      → EachLine Ok (active []) (map (lineOf (config .«chunk_size»)) ls) → Accepted w s config place b borrowed
+      → EachLine Ok noneActive (map (lineOf (config .«chunk_size»)) ls) → Accepted w s config place b borrowed
   unfolding modelFresh join
   written-by w Ok as-older ok =
       let h : List ℕ = ended (headerText (configHeader config place)) in
       let ds : List Line = map (lineOf (config .«chunk_size»)) ls in
-      let d = follow-said (config .«chunk_size») 2 (active []) b ls reads in
+      let d = follow-said (config .«chunk_size») 2 noneActive b ls reads in
       let t : take (committed s) s ≡ h ++ join (map saidText ds) =
       take-committed s ∙ ap join whole ∙ ap (λ (x : List (List ℕ)). h ++ join x) (d .text) in
       let n : length h + length (join (map saidText ds)) ≤ borrowed =
@@ -265,15 +301,15 @@ module _ (config : TerrainConfig) (place : ChunkPos) (s : List ℕ) (ls : List (
   by-both : WrittenByBoth s config place b borrowed
   unfolding modelFresh
   by-both = record {
-    older = written-by olderEdit (λ (a : Active) (d : Line). Unit) (λ n e same ok. refl) (each-older (active []) (map (lineOf (config .«chunk_size»)) ls));
+    older = written-by olderEdit (λ (a : Active) (d : Line). Unit) (λ n e same ok. refl) (each-older noneActive (map (lineOf (config .«chunk_size»)) ls));
     present = λ p.
         written-by modelEdit (LineAlters (config .«chunk_size») (ground config place)) (present-as-older new)
         (subst (LaterAlter (config .«chunk_size») (ground config place)) whole p);
   }
 
--- SCOPE 9.6, of every text: a first line h within the limits, and lines behind it that leave b active
+-- SCOPE 9.6, of every text: a first line h within the limits, and lines behind it that leave b, active edits and checkpoints
 pub accepted-is-written : (s g : List ℕ) (ls : List (List ℕ)) (h : Header) (b : Active) (borrowed : ℕ)
-    → lines s ≡ g ∷ ls → headerOf g ≡ some h → limitRefusal h ≡ 0 → follow (natAbs (h .«chunk_size»)) 2 (active []) ls ≡ read b → committed s ≤ borrowed
+    → lines s ≡ g ∷ ls → headerOf g ≡ some h → limitRefusal h ≡ 0 → follow (natAbs (h .«chunk_size»)) 2 noneActive ls ≡ read b → committed s ≤ borrowed
     → WrittenByBoth s (configOf h) (posOf h) b borrowed
 accepted-is-written s g ls h b borrowed e f l q c =
     by-both (configOf h) (posOf h) s ls b (e ∙ ap (λ (x : List ℕ). x ∷ ls) (text-back g h f l)) q borrowed c

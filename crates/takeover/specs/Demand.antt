@@ -41,7 +41,8 @@ module _ {s t : Tablet} {calls : List Call} {rs : List Reply} (made : Made s cal
     pub answer : o .answer ≡ Opened session lines trailing
     pub lines-are : lines ≡ length (J.lines (usedBytes (resumes o session)))
     pub trailing-are : session .used + trailing ≡ o .held
-    -- the second has the record, cells, used bytes and active edits that the first had after the last call whose line is whole, call `count`
+    -- the second has the record, cells, used bytes, active edits and checkpoints (names and lists) that the first had after the last call whose line
+    -- is whole, call `count`
     pub count : ℕ
     pub whole : LastWhole q count
     pub same : Alike (resumes o session) (after count made)
@@ -63,7 +64,7 @@ module _ (f : First) {calls : List Call} {rs : List Reply} {t : Tablet} (made : 
 
   -- what holds of the whole list
   pub record Demand : Type 1 where
-    -- at first, after every call and after the last: the tablet has the model's cells, count, used bytes and active edits
+    -- at first, after every call and after the last: the tablet has the model's cells, count, used bytes, active edits and checkpoints
     pub each : (n : ℕ) → AsModel (modelRun (model f) (take n calls)) (after n made)
     pub last : AsModel (modelRun (model f) calls) t
     -- its cells are the ground with its active edits laid on in order

@@ -11,7 +11,8 @@ use Rattle.journal_format.specs.Line.{headerText}
 use Rattle.journal_format.specs.Journal as J
 use Rattle.journal_format.specs.Lines.{NoLF, noLF-append}
 use Rattle.journal_format.specs.RoundTrip.{header-noLF}
-use Rattle.session_calls.specs.Calls.{Outcome, Begun, sessionFreshDoes, Resumed, resumed}
+use Rattle.session_calls.specs.Calls.{Outcome, Recorded, Begun, sessionFreshDoes, Resumed, resumed}
+use Rattle.session_calls.specs.Checkpoints.{besideCells}
 use Rattle.session_calls.specs.declared.Reply.{Reply}
 use Rattle.session_calls.specs.declared.Reopened.the-variants.{Refused}
 use Rattle.takeover_model.specs.Model.{Call, modelFresh, modelRun}
@@ -21,7 +22,7 @@ use Rattle.takeover_model.specs.Run.{run, replies}
 use Rattle.takeover_model.specs.Steps.{Holds}
 use Rattle.takeover_model.specs.Open.{Fresher, fresh-holds, reopens-none}
 use Rattle.takeover_model.specs.Takeover.{Taken, taken, first-cut, Along, along, as-model, laid-on, same-replies}
-use Rattle.takeover.specs.Contracts.{Made, none, set, column, batch, undo, form, after, gave, First, began, Second, resumes}
+use Rattle.takeover.specs.Contracts.{noted, Made, none, set, column, batch, undo, checkpoint, restore, form, after, gave, First, began, Second, resumes}
 use Rattle.takeover.specs.Demand.{model, firstLine, TakenOver, TakeoverTheorem}
 
 -- ---- what was made is what `run` and `replies` say
@@ -45,6 +46,9 @@ ran (set κs c x y z id h l p) = step (M.set x y z id h) (gave c) l (ran p)
 ran (column κs c x z height id h l p) = step (M.column x z height id h) (gave c) l (ran p)
 ran (batch κs c edits l p) = step (M.batch (now edits)) (gave c) l (ran p)
 ran (undo κs c l p) = step M.undo (gave c) l (ran p)
+ran (checkpoint κs k name cells l p) =
+    step (M.checkpoint (now name)) (besideCells (noted k) cells) (ap (λ (r : Recorded). besideCells r cells) l) (ran p)
+ran (restore κs c name l p) = step (M.restore (now name)) (gave c) l (ran p)
 ran (form k o l p) = step k o l (ran p)
 
 -- the same of the state after n calls
@@ -61,6 +65,9 @@ after-ran (suc n) (set κs c x y z id h l p) = after-step _ _ n (M.set x y z id 
 after-ran (suc n) (column κs c x z height id h l p) = after-step _ _ n (M.column x z height id h) (gave c) (after n p) l (after-ran n p)
 after-ran (suc n) (batch κs c edits l p) = after-step _ _ n (M.batch (now edits)) (gave c) (after n p) l (after-ran n p)
 after-ran (suc n) (undo κs c l p) = after-step _ _ n M.undo (gave c) (after n p) l (after-ran n p)
+after-ran (suc n) (checkpoint κs k name cells l p) =
+    after-step _ _ n (M.checkpoint (now name)) (besideCells (noted k) cells) (after n p) (ap (λ (r : Recorded). besideCells r cells) l) (after-ran n p)
+after-ran (suc n) (restore κs c name l p) = after-step _ _ n (M.restore (now name)) (gave c) (after n p) l (after-ran n p)
 after-ran (suc n) (form k o l p) = after-step _ _ n k o (after n p) l (after-ran n p)
 
 -- ---- the fresh session

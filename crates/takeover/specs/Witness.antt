@@ -14,7 +14,7 @@ use Rattle.session_calls.specs.Calls.{Outcome, begun, sessionFreshDoes, session
 use Rattle.takeover_model.specs.Model.{Call}
 use Rattle.takeover_model.specs.Model as M
 use Rattle.takeover_model.specs.Statement.{Tablet, leaves, does}
-use Rattle.takeover.specs.Contracts.{Lent, Turn, Made, First, Second}
+use Rattle.takeover.specs.Contracts.{Lent, Turn, Note, Made, First, Second}
 use Rattle.takeover.specs.Contracts as C
 
 -- a slice somewhere that holds these numbers
@@ -35,6 +35,15 @@ turn t o = record {
   journal = holding (t .journal);
   answer = record { session = o .session; reply = o .reply };
   cells′ = holding (o .cells);
+  journal′ = holding (o .journal);
+}
+
+-- .. one that is lent no cells
+abbrev note : Tablet → Outcome → Note
+note t o = record {
+  session = t .session;
+  journal = holding (t .journal);
+  answer = record { session = o .session; reply = o .reply };
   journal′ = holding (o .journal);
 }
 
@@ -68,6 +77,14 @@ makes t (M.undo ∷ ks) =
     let o = does t M.undo in
     let rest = makes (leaves o) ks in
     more o rest (C.undo two (turn t o) refl (rest .made))
+makes t (M.checkpoint n ∷ ks) =
+    let o = does t (M.checkpoint n) in
+    let rest = makes (leaves o) ks in
+    more o rest (C.checkpoint two (note t o) (holding n) (t .cells) refl (rest .made))
+makes t (M.restore n ∷ ks) =
+    let o = does t (M.restore n) in
+    let rest = makes (leaves o) ks in
+    more o rest (C.restore three (turn t o) (holding n) refl (rest .made))
 
 -- a fresh session that is accepted is a first tablet
 abbrev pub first : (config : TerrainConfig) (place : ChunkPos) (c j : List ℕ) (s : Session) → sessionFreshDoes config place c j .answer ≡ Started s → First

@@ -19,4 +19,16 @@ fn main() {
     openmap_main::print_map(b"G\t0\t4096\t256\t65\t0\t128\nX\n");
     // The third line's column is higher than the chunk.
     openmap_main::print_map(b"G\t0\t4096\t256\t2\t0\t128\t0\nS\t0\t0\t0\t0\nC\t1\t0\t3\t8\nU\nU\n");
+    // A restore of a name that no line has made.
+    openmap_main::print_map(b"G\t0\t4096\t256\t2\t0\t128\t0\nM\twalls\nR\troof\n");
+    // A name with a capital letter.
+    openmap_main::print_map(b"G\t0\t4096\t256\t2\t0\t128\t0\nM\twallS\n");
+    // A name of 17 letters, behind one of 16.
+    openmap_main::print_map(
+        b"G\t0\t4096\t256\t2\t0\t128\t0\nM\tabcdefghijklmnop\nM\tabcdefghijklmnopq\n",
+    );
+    // A seventeenth name.
+    openmap_main::print_map(
+        b"G\t0\t4096\t256\t2\t0\t128\t0\nM\ta\nM\tb\nM\tc\nM\td\nM\te\nM\tf\nM\tg\nM\th\nM\ti\nM\tj\nM\tk\nM\tl\nM\tm\nM\tn\nM\to\nM\tp\nM\tq\n",
+    );
 }

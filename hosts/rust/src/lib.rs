@@ -31,6 +31,12 @@ pub enum Refusal {
     UsedBytes,
     NothingActive,
     Full,
+    /// The name of a checkpoint is not 1 to 16 bytes, each of a to z or 0 to 9.
+    Name,
+    /// No checkpoint has this name.
+    UnknownName,
+    /// It would be a seventeenth name.
+    ManyNames,
     /// A number that this wrapper does not know: it does not belong to the archive.
     Unknown(u32),
 }
@@ -56,6 +62,9 @@ fn refusal(number: u32, line: usize) -> Result<(), Refusal> {
         22 => Refusal::UsedBytes,
         23 => Refusal::NothingActive,
         24 => Refusal::Full,
+        25 => Refusal::Name,
+        26 => Refusal::UnknownName,
+        27 => Refusal::ManyNames,
         other => Refusal::Unknown(other),
     })
 }
@@ -138,6 +147,9 @@ fn lent(cells: &mut [u16], journal: &mut [u8]) -> (*mut u16, usize, *mut u8, usi
 /// A set, column or batch after which every cell is the same is idle: it is accepted with its usual answer, changes
 /// nothing, has no line and does not become active, also where 256 edits are active or the journal is full. An older
 /// journal may have lines of idle edits: there they are active.
+///
+/// Checkpoints are in the journal, not in the record: a tablet that takes over has them too. `checkpoint` and `restore`
+/// are not among the 256 active edits, and are not undone.
 impl Session {
     /// Sets one cell, and tells the id that it held before. Where that is another than `id`, the cell was altered; else
     /// the set is idle.
@@ -187,6 +199,21 @@ impl Session {
     pub fn undo(&mut self, cells: &mut [u16], journal: &mut [u8]) -> Result<usize, Refusal> {
         let (c, n, j, m) = lent(cells, journal);
         replied(unsafe { raw::pl_session_undo(self, c, n, j, m) }).map(|r| r.altered)
+    }
+
+    /// Remembers the active edits under a name of 1 to 16 bytes, each of a to z or 0 to 9. The same name again moves
+    /// its checkpoint; there are at most 16 names.
+    pub fn checkpoint(&mut self, journal: &mut [u8], name: &[u8]) -> Result<(), Refusal> {
+        let (j, m) = (journal.as_mut_ptr(), journal.len());
+        replied(unsafe { raw::pl_session_checkpoint(self, j, m, name.as_ptr(), name.len()) }).map(|_| ())
+    }
+
+    /// Makes the edits that the name's checkpoint remembers the active ones, and tells how many cells hold another id
+    /// than before. Where that is 0 there is a line too. Every checkpoint stays, also one that was made later.
+    pub fn restore(&mut self, cells: &mut [u16], journal: &mut [u8], name: &[u8]) -> Result<usize, Refusal> {
+        let (c, n, j, m) = lent(cells, journal);
+        replied(unsafe { raw::pl_session_restore(self, c, n, j, m, name.as_ptr(), name.len()) })
+            .map(|r| r.altered)
     }
 }
 

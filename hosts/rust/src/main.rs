@@ -34,13 +34,21 @@ impl Tablet {
                 .map(Told::Altered),
             Press::Batch(edits) => session.set_blocks(cells, journal, edits).map(Told::Batch),
             Press::Undo => session.undo(cells, journal).map(Told::Altered),
+            Press::Checkpoint(name) => session
+                .checkpoint(journal, name.as_bytes())
+                .map(|()| Told::Nothing),
+            Press::Restore(name) => session
+                .restore(cells, journal, name.as_bytes())
+                .map(Told::Altered),
         }
     }
 }
 
-/// What a press tells: a set the id that it replaced, a column and an undo how many cells they altered.
+/// What a press tells: a set the id that it replaced, a column, an undo and a restore how many cells they altered, a
+/// checkpoint nothing.
 #[derive(Clone, Copy, Debug, PartialEq)]
 enum Told {
+    Nothing,
     Replaced(u16),
     Altered(usize),
     Batch(Batch),
@@ -54,18 +62,27 @@ enum Press {
     Column([usize; 2], usize, u16),
     Batch(&'static [u32]),
     Undo,
+    Checkpoint(&'static str),
+    Restore(&'static str),
 }
 
-/// A visit; each press alters a cell and appends one line.
-const VISIT: [Press; 7] = [
+/// A visit; each press appends one line, and each but the checkpoint alters a cell.
+const VISIT: [Press; 10] = [
     Press::Batch(&[3, 3, 3, 70000, 0, 9, 0, 1, 1, 1, 1, 12, 5]),
     Press::Set([0, 1, 2], 8),
     Press::Undo,
+    Press::Checkpoint("walls"),
     Press::Column([3, 0], 2, 0),
     Press::Set([2, 2, 2], 65535),
     Press::Undo,
     Press::Undo,
+    Press::Set([1, 3, 1], 8),
+    Press::Restore("walls"),
 ];
+
+/// How many lines the visit has with its checkpoint's, the first line included: the map after them is what "walls"
+/// remembers.
+const WALLS: usize = 5;
 
 fn check(holds: bool, what: &str) -> Result<(), String> {
     if holds {
@@ -109,7 +126,8 @@ fn wanted(press: &Press, before: &[u16], after: &[u16]) -> Answer {
             let written = groups.filter(|g| g[..3].iter().all(|&c| c < SIZE as u32)).count();
             Told::Batch(Batch { written, altered })
         }
-        Press::Column(..) | Press::Undo => Told::Altered(altered),
+        Press::Column(..) | Press::Undo | Press::Restore(_) => Told::Altered(altered),
+        Press::Checkpoint(_) => Told::Nothing,
     })
 }
 
@@ -163,7 +181,27 @@ fn take_over(stored: &[u8], q: usize, maps: &[Tablet]) -> Result<(), String> {
         "the lines that count",
     )?;
     check(opened.trailing == held - committed, "the bytes that do not")?;
+    restores(next.clone(), maps, lines)?;
     goes_on(next, &last.cells)
+}
+
+/// The next tablet has the checkpoint too, unless its line was cut off.
+fn restores(mut next: Tablet, maps: &[Tablet], lines: usize) -> Result<(), String> {
+    let press = Press::Restore("walls");
+    let answer = next.press(&press);
+    if lines < WALLS {
+        tells("restoring", 1, &press, answer, Err(Refusal::UnknownName))?;
+        return check(next.map() == maps[lines - 1].map(), "26 changes nothing");
+    }
+    let walls = &maps[WALLS - 1];
+    let altered = differing(&maps[lines - 1].cells, &walls.cells);
+    tells("restoring", 1, &press, answer, Ok(Told::Altered(altered)))?;
+    check(
+        next.cells == walls.cells
+            && next.session.count == walls.session.count
+            && next.session.active == walls.session.active,
+        "a restore on the next tablet gives the map that the first one had",
+    )
 }
 
 /// A press on the next tablet that puts the id that is there changes nothing. Another id tells the one that it
@@ -180,18 +218,19 @@ fn goes_on(mut next: Tablet, last: &[u16]) -> Result<(), String> {
     check(next.cells == last, "an undo brings the map back")
 }
 
-/// Makes presses, and holds each to what it must tell. An edit after which every cell is the same must leave the record
-/// and the journal as they were; any other call that is accepted must add a line.
+/// Makes presses, and holds each to what it must tell. An edit after which every cell is the same, and a call that is
+/// refused, must leave all as it was; any other call must add a line.
 fn replay(list: &str, tablet: &mut Tablet, presses: &[(Press, Answer)]) -> Result<(), String> {
     for (k, (press, wanted)) in (1..).zip(presses) {
         let before = tablet.clone();
         let answer = tablet.press(press);
         tells(list, k, press, answer, *wanted)?;
-        let idle = tablet.cells == before.cells && !matches!(press, Press::Undo);
+        let edit = matches!(press, Press::Set(..) | Press::Column(..) | Press::Batch(_));
+        let idle = edit && tablet.cells == before.cells;
         let same = *tablet == before;
         check(
-            same == (idle || answer.is_err()),
-            &format!("{list}, press {k}, {press:?}: a line where a cell is altered, and only there"),
+            same == (idle || answer.is_err()) && same == (tablet.session.used == before.session.used),
+            &format!("{list}, press {k}, {press:?}: a line, unless it is idle or refused"),
         )?;
     }
     Ok(())
@@ -205,6 +244,13 @@ fn refusals(last: &Tablet) -> Result<(), String> {
         t.press(&Press::Batch(&[0; 68])) == Err(Refusal::ManyGroups),
         "a batch of 17",
     )?;
+    for name in BAD_NAMES {
+        let answers = [t.press(&Press::Checkpoint(name)), t.press(&Press::Restore(name))];
+        check(
+            answers == [Err(Refusal::Name); 2],
+            &format!("the name {name:?}: {answers:?}"),
+        )?;
+    }
     check(t == *last, "a refusal changes nothing")?;
     let mut border = [0; SIZE * SIZE];
     let short = map::extract_border(&t.cells, SIZE, Face::NegZ, &mut border[1..]);
@@ -212,17 +258,37 @@ fn refusals(last: &Tablet) -> Result<(), String> {
     t.journal[0] = b'g';
     let first = map::reopen(&mut t.cells, &t.journal, t.session.used);
     check(first == Err(Refusal::FirstLine), "a file that is no journal")?;
-    check(
-        t.press(&Press::Undo) == Err(Refusal::UsedBytes),
-        "another's journal",
-    )?;
-    let bad = b"G\t0\t4096\t256\t2\t0\t128\t0\nU\n";
-    let answer = map::reopen(&mut [0; 8], bad, bad.len());
-    check(
-        answer == Err(Refusal::LaterLine(2)),
-        "an undo with nothing active",
-    )
+    for press in [Press::Undo, Press::Checkpoint("walls"), Press::Restore("walls")] {
+        check(t.press(&press) == Err(Refusal::UsedBytes), "another's journal")?;
+    }
+    // An undo with nothing active, a name that no line before has, a bad name, and again nothing active.
+    for (lines, line) in [
+        ("U\n", 2),
+        ("M\twalls\nR\troof\n", 3),
+        ("M\tWalls\n", 2),
+        ("M\ta\nS\t0\t0\t0\t9\nR\ta\nU\n", 5),
+    ] {
+        let text = format!("G\t0\t4096\t256\t2\t0\t128\t0\n{lines}");
+        let answer = map::reopen(&mut [0; 8], text.as_bytes(), text.len());
+        check(
+            answer == Err(Refusal::LaterLine(line)),
+            &format!("{lines:?} behind the first line: {answer:?}"),
+        )?;
+    }
+    Ok(())
 }
+
+/// Empty, of 17 bytes, or with a byte that is none of a to z and 0 to 9.
+const BAD_NAMES: [&str; 8] = [
+    "",
+    "abcdefghijklmnopq",
+    "Walls",
+    "walls done",
+    "walls\n",
+    "a\t",
+    "café",
+    "\0",
+];
 
 /// The calls without a session, on the last map's cells.
 fn bare(last: &Tablet) -> Result<(), String> {
@@ -317,7 +383,8 @@ const FULL: [(Press, Answer); 6] = [
     (Press::Batch(&[1, 0, 0, 0]), Err(Refusal::Full)),
 ];
 
-fn worked_out() -> Result<(), String> {
+/// Eight cells of water.
+fn water() -> Result<Tablet, String> {
     let config = Config {
         seed: 0,
         sea_level: 4096,
@@ -325,8 +392,13 @@ fn worked_out() -> Result<(), String> {
         chunk_size: 2,
     };
     let (cx, cy, cz) = (0, 128, 0);
-    let mut tablet = fresh(config, Pos { cx, cy, cz })?;
+    let tablet = fresh(config, Pos { cx, cy, cz })?;
     check(tablet.cells == [5; 8], "a chunk under the sea")?;
+    Ok(tablet)
+}
+
+fn worked_out() -> Result<(), String> {
+    let mut tablet = water()?;
     replay("under the sea", &mut tablet, &UNDER_THE_SEA)?;
     check(tablet.cells == [5; 8], "all taken back")?;
     tablet.journal.truncate(tablet.session.used);
@@ -363,6 +435,144 @@ fn older() -> Result<(), String> {
     };
     replay("an older journal", &mut tablet, &UNDO_OLDER)?;
     check(tablet.cells == [5; 8], "an older journal, all taken back")
+}
+
+/// Two walls of stone (1), a roof of logs (8) that is tried, and back to the walls: on eight cells of water, worked out
+/// by hand.
+const ROOF: [(Press, Answer); 11] = [
+    (Press::Restore("walls"), Err(Refusal::UnknownName)),
+    (Press::Column([0, 0], 1, 1), Ok(Told::Altered(1))),
+    (Press::Column([1, 1], 1, 1), Ok(Told::Altered(1))),
+    (Press::Checkpoint("walls"), Ok(Told::Nothing)),
+    (
+        Press::Batch(&[0, 1, 0, 8, 1, 1, 0, 8, 0, 1, 1, 8, 1, 1, 1, 8]),
+        Ok(Told::Batch(Batch {
+            written: 4,
+            altered: 4,
+        })),
+    ),
+    (Press::Checkpoint("roof"), Ok(Told::Nothing)),
+    // A door: stone becomes air.
+    (Press::Set([0, 0, 0], 0), Ok(Told::Replaced(1))),
+    // The four logs and the door.
+    (Press::Restore("walls"), Ok(Told::Altered(5))),
+    // Nothing to alter, and a line all the same.
+    (Press::Restore("walls"), Ok(Told::Altered(0))),
+    (Press::Restore("door"), Err(Refusal::UnknownName)),
+    (Press::Restore("Walls"), Err(Refusal::Name)),
+];
+
+/// The cells with the walls, and those with the roof on them.
+const WITH_WALLS: [u16; 8] = [1, 5, 5, 5, 5, 1, 5, 5];
+const WITH_ROOF: [u16; 8] = [1, 5, 8, 8, 5, 1, 8, 8];
+
+/// The journal of it. A refused call has no line.
+const ROOF_LINES: &[u8] = b"G\t0\t4096\t256\t2\t0\t128\t0\nC\t0\t0\t1\t1\nC\t1\t1\t1\t1\nM\twalls\n\
+    B\t4\t0\t1\t0\t8\t1\t1\t0\t8\t0\t1\t1\t8\t1\t1\t1\t8\nM\troof\nS\t0\t0\t0\t0\nR\twalls\nR\twalls\n";
+
+/// On the next tablet, with the last R cut off: "walls" moves, and "roof" remembers what it did.
+const NEXT: [(Press, Answer); 9] = [
+    // A later checkpoint is there after a restore of an earlier one: four logs.
+    (Press::Restore("roof"), Ok(Told::Altered(4))),
+    (Press::Restore("walls"), Ok(Told::Altered(4))),
+    // What is undone is the last edit that came back, the second wall.
+    (Press::Undo, Ok(Told::Altered(1))),
+    (Press::Set([1, 0, 0], 7), Ok(Told::Replaced(5))),
+    (Press::Checkpoint("walls"), Ok(Told::Nothing)),
+    // The four logs, (1, 0, 0) and the second wall.
+    (Press::Restore("roof"), Ok(Told::Altered(6))),
+    (Press::Undo, Ok(Told::Altered(4))),
+    (Press::Restore("walls"), Ok(Told::Altered(2))),
+    (Press::Checkpoint("a16bytenamefits0"), Ok(Told::Nothing)),
+];
+
+fn checkpoints() -> Result<(), String> {
+    let mut first = water()?;
+    replay("walls and a roof", &mut first, &ROOF)?;
+    check(
+        first.map() == (first.session, &WITH_WALLS[..], ROOF_LINES),
+        "the roof is gone, and its lines are there",
+    )?;
+    check(
+        (first.session.active, first.session.count) == (2, 8),
+        "two walls are active",
+    )?;
+    // A cut in the middle of the last line.
+    let held = first.session.used - 3;
+    let (mut cells, journal) = (vec![0; 8], first.journal.clone());
+    let opened = told(map::reopen(&mut cells, &journal, held), "walls and a roof")?;
+    check(
+        (opened.lines, opened.trailing, opened.session.active) == (8, 5, 2) && cells == WITH_WALLS,
+        "the next tablet has the walls",
+    )?;
+    let session = opened.session;
+    let mut next = Tablet {
+        session,
+        cells,
+        journal,
+    };
+    replay("the next tablet", &mut next, &NEXT)?;
+    check(next.cells == [1, 7, 5, 5, 5, 5, 5, 5], "the walls moved")?;
+    let list = [(Press::Restore("roof"), Ok(Told::Altered(6)))];
+    replay("the roof", &mut next, &list)?;
+    check(next.cells == WITH_ROOF, "the roof did not")
+}
+
+/// Sixteen names, a seventeenth, and names that are known; with 256 active edits, none of which they are.
+fn many() -> Result<(), String> {
+    let mut t = water()?;
+    t.journal.resize(4096, 0);
+    for k in 0..256 {
+        told(
+            t.session.set(&mut t.cells, &mut t.journal, [0; 3], 100 + k),
+            "an edit",
+        )?;
+    }
+    check(
+        t.press(&Press::Set([0; 3], 1)) == Err(Refusal::Full),
+        "a 257th edit",
+    )?;
+    for k in 0..16 {
+        let name = format!("name{k}");
+        told(t.session.checkpoint(&mut t.journal, name.as_bytes()), &name)?;
+    }
+    let list = [
+        (Press::Checkpoint("name16"), Err(Refusal::ManyNames)),
+        (Press::Restore("name16"), Err(Refusal::UnknownName)),
+        (Press::Restore("name15"), Ok(Told::Altered(0))),
+        (Press::Undo, Ok(Told::Altered(1))),
+        (Press::Checkpoint("name0"), Ok(Told::Nothing)),
+        (Press::Restore("name15"), Ok(Told::Altered(1))),
+        (Press::Restore("name0"), Ok(Told::Altered(1))),
+    ];
+    replay("many names", &mut t, &list)?;
+    check(
+        t.session.active == 255 && t.cells[0] == 354,
+        "255 edits are active",
+    )?;
+    // Space for the line, and one byte less; the refusals of names come first.
+    let used = t.session.used;
+    t.journal.truncate(used + 7);
+    let list = [
+        (Press::Restore("name1"), Err(Refusal::Full)),
+        (Press::Checkpoint("name1"), Err(Refusal::Full)),
+        (Press::Checkpoint("name16"), Err(Refusal::ManyNames)),
+        (Press::Restore("name16"), Err(Refusal::UnknownName)),
+    ];
+    replay("a full journal", &mut t, &list)?;
+    t.journal.push(0);
+    replay(
+        "space for a line",
+        &mut t,
+        &[(Press::Restore("name1"), Ok(Told::Altered(1)))],
+    )?;
+    // A seventeenth name in a stored journal: behind 1 + 256 + 16 + 6 lines.
+    t.journal.extend_from_slice(b"M\tname16\n");
+    let answer = map::reopen(&mut t.cells, &t.journal, t.journal.len());
+    check(
+        answer == Err(Refusal::LaterLine(280)),
+        &format!("a seventeenth name in a journal: {answer:?}"),
+    )
 }
 
 /// Eight cells, how many ids they hold, and the two lists after a tally.
@@ -414,8 +624,8 @@ fn run() -> Result<usize, String> {
             wanted(press, before, &tablet.cells),
         )?;
         check(
-            differing(before, &tablet.cells) > 0,
-            "a press of the visit alters a cell",
+            (differing(before, &tablet.cells) == 0) == matches!(press, Press::Checkpoint(_)),
+            "a press of the visit alters a cell, a checkpoint none",
         )?;
         stored.extend_from_slice(&tablet.journal[stored.len()..tablet.session.used]);
         check(tablet.session.count == nonzero(&tablet.cells), "the count")?;
@@ -433,6 +643,8 @@ fn run() -> Result<usize, String> {
     bare(&maps[VISIT.len()])?;
     worked_out()?;
     older()?;
+    checkpoints()?;
+    many()?;
     tallies()?;
     Ok(stored.len())
 }

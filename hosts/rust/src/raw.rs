@@ -35,7 +35,7 @@ pub struct Session {
     pub active: usize,
 }
 
-/// The answer of a session's edit or undo.
+/// The answer of a session's edit, undo, checkpoint or restore.
 #[repr(C)]
 #[derive(Clone, Copy, Debug, PartialEq, Eq)]
 pub struct Reply {
@@ -88,6 +88,13 @@ const _: () = {
     assert!(size_of::<Start>() == 88 && offset_of!(Start, number) == 56);
 };
 
+// Checkpoints: why a name was refused, the most bytes of a name and the most names of a journal.
+pub const PL_NAME: u32 = 25;
+pub const PL_UNKNOWN_NAME: u32 = 26;
+pub const PL_MANY_NAMES: u32 = 27;
+pub const PL_NAME_MOST: usize = 16;
+pub const PL_NAMES_MOST: usize = 16;
+
 // Sessions.
 extern "C" {
     pub fn pl_session_fresh(
@@ -135,6 +142,22 @@ extern "C" {
         cells_len: usize,
         journal: *mut u8,
         journal_len: usize,
+    ) -> Reply;
+    pub fn pl_session_checkpoint(
+        session: &mut Session,
+        journal: *mut u8,
+        journal_len: usize,
+        name: *const u8,
+        name_len: usize,
+    ) -> Reply;
+    pub fn pl_session_restore(
+        session: &mut Session,
+        cells: *mut u16,
+        cells_len: usize,
+        journal: *mut u8,
+        journal_len: usize,
+        name: *const u8,
+        name_len: usize,
     ) -> Reply;
     pub fn pl_session_reopen(
         cells: *mut u16,
