@@ -1,2 +1,3 @@
 mod Thin
 mod Forms
+mod ThinSlice
