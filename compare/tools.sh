@@ -85,5 +85,5 @@ build_driver() {
 # that the C interface is declared as the header has it.
 test_driver() {
     (cd "$compare" && env -u RUSTFLAGS cargo test --quiet --release --offline \
-        --test model --test idle --test marks --test mark_slips --test tally --test header)
+        --test model --test idle --test marks --test mark_slips --test tally --test crowns --test header)
 }

@@ -108,7 +108,7 @@ pub fn in_biome(rng: &mut Rng, s: Site, biome: original::terrain::Biome) -> Site
 }
 
 /// Runs both sides on one chunk. Answers the original's cells.
-fn chunk(report: &mut Report, s: &Site) -> Vec<u16> {
+pub fn chunk(report: &mut Report, s: &Site) -> Vec<u16> {
     let (cells, count) = rust_ground(s);
     let mut ours = vec![STALE; cells.len()];
     let answer = product::generate(s, &mut ours);

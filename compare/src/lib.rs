@@ -2,6 +2,7 @@
 pub mod altered;
 pub mod bare;
 pub mod chunk;
+pub mod crowns;
 pub mod faults;
 pub mod ground;
 pub mod idle;

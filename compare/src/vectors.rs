@@ -2,8 +2,10 @@
 //! has the inputs, its `stdout` the answers, and both come from here: from the original, and for
 //! refusals and tallies from bare.rs. Nothing of the product is in them.
 use crate::bare;
+use crate::crowns;
 use crate::ground::Site;
 use crate::ground::{height_at, in_biome, reach, rust_ground};
+use crate::meets::Met;
 use crate::noise::{any_float, bits_of};
 use crate::report::Report;
 use crate::rng::Rng;
@@ -246,16 +248,20 @@ fn borders(rng: &mut Rng, usual: Site) -> Vec<Site> {
 
 fn ground(report: &mut Report) -> List {
     let (mut stdin, mut stdout, mut seen) = (String::new(), String::new(), Seen::default());
+    let mut met = Met::default();
     for s in sites() {
         stdin.push_str(&format!(
             "{} {} {} {} {} {} {}\n",
             s.seed, s.sea_level, s.world_height_blocks, s.chunk_size, s.cx, s.cy, s.cz
         ));
         stdout.push_str(&ground_line(&s));
-        seen.note(&s, &rust_ground(&s).0);
+        let cells = rust_ground(&s).0;
+        seen.note(&s, &cells);
         seen.sizes += 1;
+        crowns::relaid(&s, &cells, &crowns::TABLE, &mut met);
     }
     seen.close(report);
+    crowns::close(report, &met);
     List {
         name: "test_ground",
         stdin,

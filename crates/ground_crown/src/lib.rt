@@ -4,7 +4,8 @@ ghost use Prim.Native.Nat.{_≤_, _<_};
 ghost use lib.IntN.{pos, _-ℤ_};
 ghost use lib.Signed.{mag};
 ghost use Rattle.grid.specs.Cube.{Cube};
-ghost use Rattle.ground_crown.specs.Crown.{Canopy, leafAt, offsetOr, squareGap, leafHash, hasLeaf, leafStep, leafRadius};
+ghost use Rattle.ground_crown.specs.Crown.{Canopy, normalCrown, giantCrown, leafAt, offsetOr, squareGap, leafHash, hasLeaf, leafStep};
+ghost use Rattle.ground_crown.specs.Radii.{radiusAt};
 ghost use Rattle.ground_crown.specs.Slabs.{leafStepIn, layerIn, canopyIn};
 use grid::cell_index;
 use grid_slabs::in_rows;
@@ -169,18 +170,24 @@ fn layer(
     }
 }
 
-// By the layer's number: the Rust's fraction of the canopy's height is below 0.3 for the two lowest layers and never above 0.85.
-fn leaf_radius(r: usize, n: usize, l: usize) -> usize
-    requires { ⌜ Canopy r n × (l ≤ n) ⌝ }
-    ensures { λ q. ⌜ (q ≡ leafRadius r n l) × (q ≤ 4) ⌝ }
+// The radii of the crowns' layers, in each crown from the lowest up: those of the normal crown, of height 3, then those of the giant,
+// of height 4. Another number here is another tree in every map, also in those that are saved.
+const LEAF_RADII: [u8; 9] = [1, 1, 2, 2, 3, 3, 4, 4, 4];
+
+// The normal crown's height and the length of its row.
+const NORMAL_HEIGHT: usize = 3;
+
+const NORMAL_LAYERS: usize = 4;
+
+// The radius of layer l of the crown of height n.
+fn leaf_radius(n: usize, l: usize) -> u8
+    requires { ⌜ (normalCrown .height ≤ n) × (n ≤ giantCrown .height) × (l ≤ n) ⌝ }
+    ensures { λ q. ⌜ q ≡ radiusAt n l ⌝ }
 {
-    if l < 2 {
-        return r - 1;
-    }
-    r
+    LEAF_RADII[NORMAL_LAYERS * (n - NORMAL_HEIGHT) + l]
 }
 
-// The layers from one below the trunk's top up.
+// The layers from one below the trunk's top up. The widest radius, r, is the contract's: the table has a crown's radii by its height.
 pub fn canopy(
     cells: &mut [u16],
     size: usize,
@@ -201,7 +208,7 @@ pub fn canopy(
     let m = n + 1;
     let mut l = 0;
     while l < m {
-        let q = leaf_radius(r, n, l);
+        let q = leaf_radius(n, l) as usize;
         let y = local_y(oy, top + l - 1, size);
         layer(cells, size, lo, hi, x, z, wx, wz, y, q, l);
         l += 1;
