@@ -82,8 +82,10 @@ build_driver() {
 }
 
 # Tests the driver itself: the model against the scope's example and the reference model, that slips are found, and
-# that the C interface is declared as the header has it.
+# that the C interface is declared as the header has it. Then the original, with checks of overflow.
 test_driver() {
-    (cd "$compare" && env -u RUSTFLAGS cargo test --quiet --release --offline \
-        --test model --test idle --test marks --test mark_slips --test tally --test crowns --test header)
+    (cd "$compare" && unset RUSTFLAGS &&
+        cargo test --quiet --release --offline \
+            --test model --test idle --test marks --test mark_slips --test tally --test crowns --test seeds --test header &&
+        cargo test --quiet --profile checked --offline --test overflow)
 }

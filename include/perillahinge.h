@@ -32,7 +32,7 @@ extern "C" {
 enum pl_number {
     PL_OK = 0,
     PL_SIZE = 1,            /* size not 1 to 64 */
-    PL_SEED = 2,            /* seed above 65,535 */
+    PL_SEED = 2,            /* seed above 10,000,000 */
     PL_SEA_LEVEL = 3,       /* sea level not -4,096 to 4,096 */
     PL_WORLD_HEIGHT = 4,    /* world height not 2 to 4,096 */
     PL_PLACE = 5,           /* a cell of the chunk would lie beyond a million */
@@ -56,10 +56,11 @@ enum pl_number {
 
 enum pl_limit {
     PL_SIZE_MOST = 64,
+    PL_SEED_MOST = 10000000,
     PL_JOURNAL_MOST = 32768,
     PL_ACTIVE_MOST = 256,
     PL_GROUPS_MOST = 16,
-    PL_HEADER_MOST = 48, /* bytes of a first line with its LF, at most */
+    PL_HEADER_MOST = 51, /* bytes of a first line with its LF, at most */
     PL_NAME_MOST = 16,   /* bytes of a checkpoint's name */
     PL_NAMES_MOST = 16   /* names of checkpoints in one journal */
 };
@@ -67,7 +68,7 @@ enum pl_limit {
 /* The six faces of a chunk. */
 enum pl_face { PL_POS_X = 0, PL_NEG_X = 1, PL_POS_Y = 2, PL_NEG_Y = 3, PL_POS_Z = 4, PL_NEG_Z = 5 };
 
-/* Settings, within these limits: seed at most 65,535; sea_level from -4,096 to 4,096; world_height_blocks from 2 to
+/* Settings, within these limits: seed at most 10,000,000; sea_level from -4,096 to 4,096; world_height_blocks from 2 to
  * 4,096; chunk_size from 1 to 64. */
 typedef struct pl_config {
     uint32_t seed;

@@ -3,6 +3,7 @@ use crate::chunk::STALE;
 use crate::product;
 use crate::report::Report;
 use crate::rng::Rng;
+use crate::seeds;
 use crate::seen::Seen;
 use original::terrain::{TerrainConfig, TerrainGenerator};
 
@@ -107,11 +108,19 @@ pub fn in_biome(rng: &mut Rng, s: Site, biome: original::terrain::Biome) -> Site
     }
 }
 
+/// What a library lays at a place in the cells that it is lent, and its answer.
+pub type Generate<'a> = &'a dyn Fn(&Site, &mut [u16]) -> Laid;
+
 /// Runs both sides on one chunk. Answers the original's cells.
 pub fn chunk(report: &mut Report, s: &Site) -> Vec<u16> {
+    chunk_of(report, s, &product::generate)
+}
+
+/// The same for any library.
+pub fn chunk_of(report: &mut Report, s: &Site, generate: Generate) -> Vec<u16> {
     let (cells, count) = rust_ground(s);
     let mut ours = vec![STALE; cells.len()];
-    let answer = product::generate(s, &mut ours);
+    let answer = generate(s, &mut ours);
     report.same(answer == Laid::Count(count), || {
         format!("{s:?}: Rust counts {count}, product answers {answer:?}")
     });
@@ -133,7 +142,7 @@ pub fn chunk(report: &mut Report, s: &Site) -> Vec<u16> {
 /// Settings at and inside their ends. A low world cuts columns off at its top: so (100, 64) shows
 /// water, (60, 62) to (60, 65) the heights around sea + 2, where beaches end, and (24, 41) to (24, 72)
 /// the heights where a mountain's top changes.
-fn settings(rng: &mut Rng, chunk_size: usize) -> Site {
+pub fn settings(rng: &mut Rng, chunk_size: usize) -> Site {
     let any_seed = rng.below(65_536) as u32;
     let any_sea = rng.range(-4096, 4096) as i32;
     let any_height = rng.range(2, 4096) as i32;
@@ -196,12 +205,17 @@ fn upward(rng: &mut Rng, s: &Site) -> i32 {
     y.clamp(least, most)
 }
 
-fn random_site(rng: &mut Rng, size: usize) -> Site {
-    let mut s = settings(rng, size);
-    s.cx = across(rng, size);
-    s.cz = across(rng, size);
+/// These settings at a place of any kind.
+pub fn placed(rng: &mut Rng, mut s: Site) -> Site {
+    s.cx = across(rng, s.chunk_size);
+    s.cz = across(rng, s.chunk_size);
     s.cy = upward(rng, &s);
     s
+}
+
+fn random_site(rng: &mut Rng, size: usize) -> Site {
+    let s = settings(rng, size);
+    placed(rng, s)
 }
 
 /// Chunks of every size: both corners of the reach, around zero, and random ones.
@@ -350,7 +364,7 @@ fn refusal(s: &Site, cells: usize) -> u32 {
     };
     if !(1..=64).contains(&size) {
         1
-    } else if s.seed > 65_535 {
+    } else if s.seed > seeds::MOST {
         2
     } else if !(-4096..=4096).contains(&s.sea_level) {
         3
@@ -401,7 +415,16 @@ fn edge_site(rng: &mut Rng) -> (Site, usize) {
         (1 << 32) + 1,
     ]);
     let s = Site {
-        seed: rng.pick(&[0, 1, 65_535, 65_535, 65_536, u32::MAX]),
+        seed: rng.pick(&[
+            0,
+            1,
+            65_535,
+            65_536,
+            seeds::MOST,
+            seeds::MOST,
+            seeds::MOST + 1,
+            u32::MAX,
+        ]),
         sea_level: rng.pick(&[24, 0, -4096, 4096, -4097, 4097, i32::MIN, i32::MAX]),
         world_height_blocks: rng.pick(&[256, 2, 4096, 3, 1, 0, -1, 4097, i32::MIN, i32::MAX]),
         chunk_size,

@@ -12,6 +12,7 @@ use crate::presses::{idle, near, tapping, view, PRESSES};
 use crate::product::Product;
 use crate::report::Report;
 use crate::rng::Rng;
+use crate::seeds;
 use crate::session::{begun, called, cuts, go_on, held, reopening, started, Calls};
 use std::collections::BTreeMap;
 
@@ -73,7 +74,7 @@ pub const CAUSES: [Cause; 6] = [
         _ => lent.cells.push(0),
     }),
     ("settings off the limits", |rng, lent| match rng.below(4) {
-        0 => lent.record.site.seed = 65_536,
+        0 => lent.record.site.seed = seeds::MOST + 1,
         1 => lent.record.site.world_height_blocks = 1,
         2 => lent.record.site.cz = 1_000_001,
         _ => lent.record.site.chunk_size = rng.pick(&[0, 65]),

@@ -4,6 +4,7 @@ use crate::ground::{self, reach, Site};
 use crate::model::{header, Call, NAMES};
 use crate::names;
 use crate::rng::Rng;
+use crate::seeds;
 use std::collections::BTreeMap;
 
 /// Settings and a place within the limits, mostly of a small size.
@@ -12,7 +13,7 @@ pub fn site(rng: &mut Rng) -> Site {
     let (least, most) = reach(chunk_size);
     let any = rng.range(least as i64, most as i64) as i32;
     Site {
-        seed: rng.pick(&[0, 1, 7, 65_535, 4242]),
+        seed: seeds::any(rng),
         sea_level: rng.pick(&[24, 0, -1, -4096, 4096, 60, 100]),
         world_height_blocks: rng.pick(&[2, 3, 64, 256, 4096]),
         chunk_size,
@@ -26,7 +27,7 @@ pub fn site(rng: &mut Rng) -> Site {
 pub fn surface(rng: &mut Rng) -> Site {
     let chunk_size = rng.pick(&[1, 2, 5, 6, 8, 9, 10, 13, 16, 17, 24, 31, 33, 48, 63, 64]);
     let mut site = Site {
-        seed: rng.pick(&[0, 1, 7, 65_535, 4242]),
+        seed: seeds::any(rng),
         sea_level: rng.pick(&[24, 0, 40, 90]),
         world_height_blocks: rng.pick(&[64, 256]),
         chunk_size,
@@ -73,6 +74,8 @@ fn field(rng: &mut Rng, most: u64) -> String {
                 "-1",
                 "65535",
                 "65536",
+                "10000000",
+                "10000001",
                 "4294967296",
                 "9999999999",
                 "10000000000",

@@ -19,6 +19,7 @@ pub mod product;
 pub mod program;
 pub mod report;
 pub mod rng;
+pub mod seeds;
 pub mod seen;
 pub mod session;
 pub mod stack;

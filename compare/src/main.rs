@@ -1,7 +1,7 @@
 //! Runs every comparison, or only that of the program, or writes the lists for the gate.
 //! Exit status 0: no difference; 1: a difference.
 use compare::report::Report;
-use compare::{chunk, crowns, ground, idle, marks, noise, program, session, stack, tally, vectors};
+use compare::{chunk, crowns, ground, idle, marks, noise, program, seeds, session, stack, tally, vectors};
 use std::process::ExitCode;
 
 fn main() -> ExitCode {
@@ -12,6 +12,7 @@ fn main() -> ExitCode {
         _ => {
             noise::run(&mut report);
             ground::run(&mut report);
+            seeds::run(&mut report);
             crowns::run(&mut report);
             chunk::run(&mut report);
             tally::run(&mut report);

@@ -4,6 +4,7 @@ use crate::journals;
 use crate::model::{self, Call, Lent, Name, Reference, ACTIVE, JOURNAL, NAMES};
 use crate::names;
 use crate::rng::Rng;
+use crate::seeds;
 
 /// Maps of sixteen names that are much alike, by the number of each.
 pub type Alike = (&'static str, fn(usize) -> Name);
@@ -29,7 +30,7 @@ pub const FOREIGN: [Cause; 11] = [
         lent.record.active = (lent.record.active + rng.range(1, 256) as usize) % (ACTIVE + 1)
     }),
     ("other settings", |rng, lent| {
-        lent.record.site.seed = (lent.record.site.seed + rng.range(1, 9) as u32) % 65_536
+        lent.record.site.seed = (lent.record.site.seed + rng.range(1, 9) as u32) % (seeds::MOST + 1)
     }),
     ("another place", |_, lent| {
         lent.record.site.cy = i32::from(lent.record.site.cy == 0)

@@ -2,6 +2,7 @@
 use crate::product;
 use crate::report::Report;
 use crate::rng::Rng;
+use crate::seeds;
 use original::noise as rust;
 
 /// f32 values where a port goes wrong: zeros, subnormals, ends, whole numbers and their
@@ -121,7 +122,7 @@ fn near_whole(rng: &mut Rng) -> f32 {
 
 /// A world coordinate, scaled and moved as the terrain does it.
 fn world(rng: &mut Rng) -> f32 {
-    let seed = rng.pick(&[0.0f32, 1.0, 65_535.0]) * 1000.0;
+    let seed = seeds::any(rng) as f32 * 1000.0;
     let at = rng.range(-1_000_000, 1_000_000) as f32 + seed;
     let scale = rng.pick(&[
         0.003f32, 0.004, 0.006, 0.008, 0.01, 0.015, 0.02, 0.025, 0.04, 0.05, 0.06, 0.08,

@@ -5,6 +5,7 @@ use crate::journals;
 use crate::model;
 use crate::report::Report;
 use crate::rng::Rng;
+use crate::seeds;
 use std::io::Write;
 use std::path::Path;
 use std::process::{Command, Stdio};
@@ -29,7 +30,7 @@ fn printed(program: &Path, input: &[u8]) -> std::io::Result<Vec<u8>> {
 fn large(rng: &mut Rng) -> Vec<u8> {
     let size: u64 = rng.pick(&[7, 11, 15, 16, 16, 16, 17, 64, 65]);
     let cy = rng.pick(&[0, 1, 2, -1]);
-    let mut text = format!("G\t{}\t24\t256\t{size}\t0\t{cy}\t0\n", rng.below(65_536));
+    let mut text = format!("G\t{}\t24\t256\t{size}\t0\t{cy}\t0\n", seeds::any(rng));
     for _ in 0..rng.below(8) {
         let [x, z, height] = std::array::from_fn(|_| rng.below(size));
         text.push_str(&format!("C\t{x}\t{z}\t{height}\t{}\n", rng.below(65_536)));

@@ -9,6 +9,7 @@ use crate::model::{self, Call, Lent, Record, Reference, Refusal, Reopened, Reply
 use crate::product::Product;
 use crate::report::Report;
 use crate::rng::Rng;
+use crate::seeds;
 use crate::stack;
 
 /// The calls of a library. Each changes what is lent to it, as the library would.
@@ -88,15 +89,19 @@ fn cells_for(rng: &mut Rng, journal: &[u8]) -> usize {
 
 /// Valid and damaged journals. A refusal that was never met is a failure.
 fn journals(report: &mut Report, rng: &mut Rng, calls: &impl Calls, many: u64) {
-    let mut met = std::collections::BTreeMap::new();
+    let (mut met, mut wide) = (std::collections::BTreeMap::new(), 0u64);
     for _ in 0..many {
         let (journal, held) = journals::journal(rng);
         let cells = cells_for(rng, &journal);
-        let number = model::reopen(&journal, held, cells).map_or_else(|r| r.number, |_| 0);
-        *met.entry(number).or_insert(0u64) += 1;
+        let opened = model::reopen(&journal, held, cells);
+        wide += u64::from(opened.as_ref().is_ok_and(|r| r.record.site.seed > seeds::OLDER));
+        *met.entry(opened.map_or_else(|r| r.number, |_| 0)).or_insert(0u64) += 1;
         reopening(report, calls, &journal, held, cells);
     }
-    println!("journals: {many}, by refusal (0: accepted) {met:?}");
+    println!("journals: {many}, by refusal (0: accepted) {met:?}; {wide} accepted with a seed above 65,535");
+    if many >= 10_000 && wide == 0 {
+        report.fail("no journal with a seed above 65,535 was accepted".into());
+    }
     for number in [0, 1, 2, 3, 4, 5, 6, 9, 10, 11, 12] {
         if many >= 10_000 && !met.contains_key(&number) {
             report.fail(format!("no journal met {number}"));
@@ -268,7 +273,7 @@ pub fn cut(
 }
 
 /// Six calls of any kind.
-fn six(rng: &mut Rng, lent: &Lent, done: usize) -> Option<Call> {
+pub fn six(rng: &mut Rng, lent: &Lent, done: usize) -> Option<Call> {
     (done < 6).then(|| journals::call(rng, lent.record.site.chunk_size))
 }
 
@@ -324,6 +329,8 @@ fn wild(rng: &mut Rng) -> i64 {
         -4097,
         65_535,
         65_536,
+        seeds::MOST.into(),
+        i64::from(seeds::MOST) + 1,
         i32::MAX as i64,
         i32::MIN as i64,
     ])

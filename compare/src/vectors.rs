@@ -9,6 +9,7 @@ use crate::meets::Met;
 use crate::noise::{any_float, bits_of};
 use crate::report::Report;
 use crate::rng::Rng;
+use crate::seeds;
 use crate::seen::Seen;
 use original::chunk::{Chunk, Face};
 use original::noise as rust;
@@ -197,6 +198,35 @@ fn sites() -> Vec<Site> {
         }));
     }
     all.extend(borders(&mut rng, usual));
+    all.extend(wide_seeds(&mut rng, usual));
+    all
+}
+
+/// Seeds above those of before: small chunks at two corners of the reach, and larger ones anywhere.
+fn wide_seeds(rng: &mut Rng, usual: Site) -> Vec<Site> {
+    let mut all = vec![];
+    for seed in seeds::NAMED {
+        for chunk_size in [1, 3, 5, 16] {
+            let (least, most) = reach(chunk_size);
+            for (cx, cz) in [(least, most), (most, least)] {
+                all.push(at_surface(Site {
+                    seed,
+                    chunk_size,
+                    cx,
+                    cz,
+                    ..usual
+                }));
+            }
+        }
+        let (least, most) = reach(24);
+        all.push(at_surface(Site {
+            seed,
+            chunk_size: 24,
+            cx: rng.range(least.into(), most.into()) as i32,
+            cz: rng.range(least.into(), most.into()) as i32,
+            ..usual
+        }));
+    }
     all
 }
 

@@ -243,7 +243,7 @@ fn refusals_of_the_program() {
     let no = |text: &str| model::report(text.as_bytes());
     assert_eq!(no(""), "NO\t10\t0\n");
     assert_eq!(no("G\t0\t24\t256\t17\t0\t0\t0\nX\n"), "NO\t6\t0\n");
-    assert_eq!(no("G\t70000\t24\t256\t17\t0\t0\t0\nX\n"), "NO\t2\t0\n");
+    assert_eq!(no("G\t10000001\t24\t256\t17\t0\t0\t0\nX\n"), "NO\t2\t0\n");
     assert_eq!(no("G\t-0\t24\t256\t1\t0\t0\t0\n"), "NO\t11\t1\n");
     assert_eq!(no("G\t9999999999\t24\t256\t1\t0\t0\t0\n"), "NO\t2\t0\n");
     assert_eq!(no("G\t99999999999\t24\t256\t1\t0\t0\t0\n"), "NO\t11\t1\n");

@@ -459,6 +459,29 @@ static void tallies(void) {
     }
 }
 
+/* The greatest seed, in the longest first line: it fills a journal of its length, reopens, and one more is refused. */
+static void seeds(void) {
+    static const char text[] = "G\t10000000\t-4096\t4096\t1\t-1000000\t-1000000\t-1000000\n";
+    const pl_pos pos = {-1000000, -1000000, -1000000};
+    pl_config config = {PL_SEED_MOST, -4096, 4096, 1};
+    uint8_t journal[PL_HEADER_MOST] = {0};
+    uint16_t cell = 77, again = 77;
+    CHECK(pl_session_fresh(config, pos, &cell, 1, journal, PL_HEADER_MOST - 1).number == PL_FULL);
+    config.seed++;
+    CHECK(pl_session_fresh(config, pos, &cell, 1, journal, PL_HEADER_MOST).number == PL_SEED);
+    CHECK(pl_generate(config, pos, &cell, 1).number == PL_SEED);
+    CHECK(cell == 77 && journal[0] == 0);
+    config.seed--;
+    pl_start start = pl_session_fresh(config, pos, &cell, 1, journal, PL_HEADER_MOST);
+    CHECK(start.number == PL_OK && start.session.used == PL_HEADER_MOST && cell != 77);
+    CHECK(sizeof text - 1 == PL_HEADER_MOST && memcmp(journal, text, PL_HEADER_MOST) == 0);
+    start = pl_session_reopen(&again, 1, journal, PL_HEADER_MOST, PL_HEADER_MOST);
+    CHECK(start.number == PL_OK && start.session.config.seed == PL_SEED_MOST && again == cell);
+    journal[9] = '1';
+    start = pl_session_reopen(&again, 1, journal, PL_HEADER_MOST, PL_HEADER_MOST);
+    CHECK(start.number == PL_SEED && again == cell);
+}
+
 int main(void) {
     static tablet maps[PRESSES + 1]; /* the map after each line */
     static storage file;
@@ -500,6 +523,7 @@ int main(void) {
     many_names();
     stored_names();
     tallies();
+    seeds();
     printf("host in %s: %zu bytes, a cut at each, the map is there\n",
 #ifdef __cplusplus
            "C++",

@@ -1,3 +1,4 @@
 pub mod Refusals
 pub mod Limits
+pub mod Seeds
 pub mod Answers

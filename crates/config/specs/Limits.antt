@@ -19,8 +19,11 @@ abbrev pub within : ℤ → ℤ → ℤ → Bool
 within lo z hi = leZ lo z && leZ z hi
 
 -- SCOPE 2.1
+abbrev pub seedMost : ℕ
+seedMost = 10000000
+
 unfoldable pub seedOk : ℤ → Bool
-seedOk z = within (pos 0) z (pos 65535)
+seedOk z = within (pos 0) z (pos seedMost)
 
 unfoldable pub seaOk : ℤ → Bool
 seaOk z = within (negsuc 4095) z (pos 4096)
@@ -38,12 +41,15 @@ placeOk size c = leZ (negsuc 999999) (c *ℤ size) && leZ (c *ℤ size +ℤ (siz
 unfoldable pub placesOk : Header → Bool
 placesOk h = placeOk (h .«chunk_size») (h .cx) && placeOk (h .«chunk_size») (h .cy) && placeOk (h .«chunk_size») (h .cz)
 
--- SCOPE 2.3: the number of the first limit that is broken, or 0
-unfoldable pub limitRefusal : Header → ℕ
-limitRefusal h =
+-- SCOPE 2.3: the number of the first limit that is broken, or 0; `seedIn` tests the seed
+abbrev pub firstBroken : (ℤ → Bool) → Header → ℕ
+firstBroken seedIn h =
     refusal
-    (must (sizeOk (h .«chunk_size»)) 1 ∷ must (seedOk (h .seed)) 2 ∷ must (seaOk (h .«sea_level»)) 3
+    (must (sizeOk (h .«chunk_size»)) 1 ∷ must (seedIn (h .seed)) 2 ∷ must (seaOk (h .«sea_level»)) 3
     ∷ must (heightOk (h .«world_height_blocks»)) 4 ∷ must (placesOk h) 5 ∷ [])
+
+unfoldable pub limitRefusal : Header → ℕ
+limitRefusal h = firstBroken seedOk h
 
 -- the header in the order of the journal's first line (SCOPE 6.3)
 abbrev pub header : ℤ → ℤ → ℤ → ℤ → ℤ → ℤ → ℤ → Header
@@ -91,7 +97,7 @@ reached size c h e =
 -- the seven numbers are within the limits
 pub record Limited (h : Header) : Type 0 where
   pub size : Between 1 64 (h .«chunk_size»)
-  pub seed : Between 0 65535 (h .seed)
+  pub seed : Between 0 seedMost (h .seed)
   pub sea : mag (h .«sea_level») ≤ 4096
   pub height : Between 2 4096 (h .«world_height_blocks»)
   pub cx : placeOk (h .«chunk_size») (h .cx) ≡ true
@@ -106,9 +112,9 @@ pub size-large : (n : ℕ) → 64 < n → sizeOk (pos n) ≡ false
 unfolding sizeOk
 size-large n h = ap (λ (b : Bool). leZ (pos 1) (pos n) && b) (lt-leb n 64 h) ∙ and-false (leZ (pos 1) (pos n))
 
-pub seed-between : (z : ℤ) → seedOk z ≡ true → Between 0 65535 z
+pub seed-between : (z : ℤ) → seedOk z ≡ true → Between 0 seedMost z
 unfolding seedOk
-seed-between z e = between 0 65535 z e
+seed-between z e = between 0 seedMost z e
 
 pub sea-most : (z : ℤ) → seaOk z ≡ true → mag z ≤ 4096
 unfolding seaOk
@@ -142,7 +148,7 @@ limited h e =
 pub record Fine (s : TerrainConfig) (p : ChunkPos) : Type 0 where
   pub some : 1 ≤ s .«chunk_size»
   pub most : s .«chunk_size» ≤ 64
-  pub seed : s .seed ≤ 65535
+  pub seed : s .seed ≤ seedMost
   pub sea : mag (s .«sea_level») ≤ 4096
   pub height : Between 2 4096 (s .«world_height_blocks»)
   pub cx : mag (p .cx *ℤ pos (s .«chunk_size»)) ≤ 1000000

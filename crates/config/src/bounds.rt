@@ -6,7 +6,7 @@ pub const SIZE_MOST: usize = 64;
 // The columns of a chunk, at most.
 pub const COLUMNS_MOST: usize = SIZE_MOST * SIZE_MOST;
 
-pub const SEED_MOST: i64 = 65535;
+pub const SEED_MOST: i64 = 10000000;
 
 pub const SEA_LEAST: i64 = -4096;
 

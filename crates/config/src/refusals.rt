@@ -6,7 +6,7 @@ pub const OK: u32 = 0;
 // The size is not 1 to 64.
 pub const SIZE: u32 = 1;
 
-// The seed is above 65,535.
+// The seed is above 10,000,000.
 pub const SEED: u32 = 2;
 
 // The sea level is not -4,096 to 4,096.

@@ -2,15 +2,15 @@
 // `openmap`, but for the reading.
 fn main() {
     // Size, seed, sea level and world height off their limits: the size comes first.
-    openmap_main::print_map(b"G\t65536\t4097\t1\t65\t0\t128\t0\nX\n");
+    openmap_main::print_map(b"G\t10000001\t4097\t1\t65\t0\t128\t0\nX\n");
     // Seed, sea level and world height off their limits, and a size above 16: the seed comes first.
-    openmap_main::print_map(b"G\t65536\t4097\t1\t17\t0\t128\t0\nX\n");
+    openmap_main::print_map(b"G\t10000001\t4097\t1\t17\t0\t128\t0\nX\n");
     // Sea level and world height off their limits, and a size above 16: the sea level comes first.
-    openmap_main::print_map(b"G\t65535\t-4097\t1\t17\t0\t128\t0\nX\n");
+    openmap_main::print_map(b"G\t10000000\t-4097\t1\t17\t0\t128\t0\nX\n");
     // World height and place off their limits, and a size above 16: the world height comes first.
-    openmap_main::print_map(b"G\t65535\t-4096\t4097\t64\t15625\t128\t0\nX\n");
+    openmap_main::print_map(b"G\t10000000\t-4096\t4097\t64\t15625\t128\t0\nX\n");
     // A place off its limits and a size above 16: the place comes first.
-    openmap_main::print_map(b"G\t65535\t-4096\t4096\t64\t15624\t-15626\t0\nX\n");
+    openmap_main::print_map(b"G\t10000000\t-4096\t4096\t64\t15624\t-15626\t0\nX\n");
     // A size above 16, and a later line that is bad: the size comes first.
     openmap_main::print_map(b"G\t0\t4096\t256\t17\t0\t128\t0\nX\n");
     // A first line without its LF; it has six numbers, and its size is off the limits: the LF comes first.

@@ -6,7 +6,7 @@
 
 pub mod raw;
 
-pub use raw::{Config, Pos, Session};
+pub use raw::{Config, Pos, Session, PL_SEED_MOST as SEED_MOST};
 
 /// Why a call was refused. It has changed nothing.
 #[derive(Clone, Copy, Debug, PartialEq, Eq)]

@@ -1,6 +1,6 @@
 //! An example host: a fresh map, presses, a cut at every byte, and the next tablet takes over. A wrong answer or
 //! map ends it with a message and exit status 1.
-use perillahinge::{self as map, Batch, Config, Face, Pos, Refusal, Session};
+use perillahinge::{self as map, Batch, Config, Face, Pos, Refusal, Session, SEED_MOST};
 use std::process::ExitCode;
 
 const SIZE: usize = 4;
@@ -131,15 +131,25 @@ fn wanted(press: &Press, before: &[u16], after: &[u16]) -> Answer {
     })
 }
 
-/// A fresh map at the surface.
+/// A fresh map at the surface, with the greatest seed. One more is refused.
 fn begin() -> Result<Tablet, String> {
     let config = Config {
-        seed: 65535,
+        seed: SEED_MOST,
         sea_level: 30,
         world_height_blocks: 48,
         chunk_size: SIZE,
     };
-    fresh(config, Pos { cx: 5, cy: 6, cz: -7 })
+    let pos = Pos { cx: 5, cy: 6, cz: -7 };
+    let beyond = Config {
+        seed: SEED_MOST + 1,
+        ..config
+    };
+    let mut cells = vec![7; CELLS];
+    check(
+        map::generate(beyond, pos, &mut cells) == Err(Refusal::Seed) && cells == [7; CELLS],
+        "a seed beyond the greatest",
+    )?;
+    fresh(config, pos)
 }
 
 fn fresh(config: Config, pos: Pos) -> Result<Tablet, String> {

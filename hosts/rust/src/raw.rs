@@ -88,6 +88,9 @@ const _: () = {
     assert!(size_of::<Start>() == 88 && offset_of!(Start, number) == 56);
 };
 
+// The greatest seed.
+pub const PL_SEED_MOST: u32 = 10000000;
+
 // Checkpoints: why a name was refused, the most bytes of a name and the most names of a journal.
 pub const PL_NAME: u32 = 25;
 pub const PL_UNKNOWN_NAME: u32 = 26;
