@@ -7,6 +7,7 @@ pub mod faults;
 pub mod ground;
 pub mod idle;
 pub mod journals;
+pub mod library;
 pub mod marked;
 pub mod marks;
 pub mod meets;

@@ -163,26 +163,48 @@ pub fn maps(report: &mut Report, calls: &impl Calls, many: u64) {
     println!("seeds: {many} maps, reopened at {reopened} cuts");
 }
 
-/// The noises of a column (SCOPE 4.2, 4.4): what is added to x or z at most, the factor, what is added to the product at
-/// most, and the frequency of the last octave.
-const NOISES: [(f32, f32, f32, f32); 10] = [
-    (0.0, 0.003, 900.0, 8.0),
-    (0.0, 0.004, 300.0, 8.0),
-    (40.0, 0.004, 0.0, 16.0),
-    (0.0, 0.025, 0.0, 8.0),
-    (0.0, 0.08, 0.0, 2.0),
-    (0.0, 0.008, 500.0, 8.0),
-    (0.0, 0.015, 300.0, 4.0),
-    (0.0, 0.006, 600.0, 4.0),
-    (0.0, 0.02, 50.0, 4.0),
-    (0.0, 0.01, 250.0, 4.0),
+/// A noise of a column: what is added to x or z, the factor, what is added to the product, each as it is at most, and the
+/// frequency of the last octave.
+struct Noise {
+    moved: f32,
+    factor: f32,
+    added: f32,
+    last: f32,
+}
+
+const fn noise(factor: f32, added: f32, last: f32) -> Noise {
+    Noise {
+        moved: 0.0,
+        factor,
+        added,
+        last,
+    }
+}
+
+/// SCOPE 4.2, 4.4. Temperature and the two of the warp are one here; the warp moves the continent by 40.
+const NOISES: [Noise; 10] = [
+    noise(0.003, 900.0, 8.0),
+    noise(0.004, 300.0, 8.0),
+    Noise {
+        moved: 40.0,
+        ..noise(0.004, 0.0, 16.0)
+    },
+    noise(0.025, 0.0, 8.0),
+    noise(0.08, 0.0, 2.0),
+    noise(0.008, 500.0, 8.0),
+    noise(0.015, 300.0, 4.0),
+    noise(0.006, 600.0, 4.0),
+    noise(0.02, 50.0, 4.0),
+    noise(0.01, 250.0, 4.0),
 ];
 
 /// The greatest coordinate that a noise gets from a column at this x or z.
 pub fn greatest(seed: u32, at: i32) -> f32 {
     let x = at as f32 + seed as f32 * 1000.0;
-    let all = NOISES.map(|(moved, factor, more, last)| ((x + moved) * factor + more) * last);
-    all.into_iter().fold(f32::MIN, f32::max)
+    let all = NOISES
+        .iter()
+        .map(|n| ((x + n.moved) * n.factor + n.added) * n.last);
+    all.fold(f32::MIN, f32::max)
 }
 
 /// Whether the original's sum of a coordinate's whole part and 1 stays within an i32.

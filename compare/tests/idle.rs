@@ -2,9 +2,9 @@
 //! one of them.
 use compare::ground::Site;
 use compare::idle::{compare, Amount};
-use compare::model::{self, Call, Edit, Lent, Record, Reference, Refusal, Reopened, Reply, ACTIVE, JOURNAL};
+use compare::library::{Library, Open, Press, MODEL};
+use compare::model::{self, Call, Edit, Lent, Reference, Refusal, Reply, ACTIVE, JOURNAL};
 use compare::report::Report;
-use compare::session::Calls;
 
 const SMALL: Amount = Amount {
     presses: 4000,
@@ -14,52 +14,11 @@ const SMALL: Amount = Amount {
     undos: 1500,
 };
 
-/// What a call leaves and replies, from what it was lent.
-type Press<'a> = &'a dyn Fn(&Lent, &Call) -> (Lent, Reply);
-
-/// Reopening, of a journal, its held bytes and a number of cells.
-type Open<'a> = &'a dyn Fn(&[u8], usize, usize) -> Result<Reopened, Refusal>;
-
-/// A library whose presses and reopening may have a slip; all else is the model.
-struct Library<'a> {
-    press: Press<'a>,
-    open: Open<'a>,
-}
-
-impl Calls for Library<'_> {
-    fn fresh(&self, site: &Site, cells: &mut [u16], journal: &mut [u8]) -> Result<Record, u32> {
-        let lent = model::fresh(site, cells, journal)?;
-        cells.copy_from_slice(&lent.cells);
-        journal.copy_from_slice(&lent.journal);
-        Ok(lent.record)
-    }
-
-    fn call(&self, lent: &mut Lent, call: &Call) -> Reply {
-        let (next, reply) = (self.press)(lent, call);
-        *lent = next;
-        reply
-    }
-
-    fn reopen(
-        &self,
-        journal: &[u8],
-        held: usize,
-        cells: &mut [u16],
-    ) -> Result<(Record, usize, usize), Refusal> {
-        let opened = (self.open)(journal, held, cells.len())?;
-        cells.copy_from_slice(&opened.cells);
-        Ok((opened.record, opened.lines, opened.trailing))
-    }
-
-    fn committed(&self, journal: &[u8], held: usize) -> usize {
-        model::committed(journal, held).len()
-    }
-}
-
 /// The differences that comparisons find, and the kinds that were not met.
 fn found(press: Press, open: Open, amount: &Amount) -> (u64, u64) {
     let mut report = Report::quiet();
-    compare(&mut report, &Library { press, open }, amount);
+    let library = Library { press, open, ..MODEL };
+    compare(&mut report, &library, amount);
     (report.differences - report.failures, report.failures)
 }
 
@@ -154,11 +113,7 @@ fn first_idle(journal: &[u8], held: usize) -> Option<u32> {
 #[test]
 fn the_model_has_no_difference() {
     let mut report = Report::default();
-    let model = Library {
-        press: &model::replied,
-        open: &model::reopen,
-    };
-    compare(&mut report, &model, &SMALL);
+    compare(&mut report, &MODEL, &SMALL);
     assert_eq!(report.differences, 0);
     // Nor have the makers of slips, where they are given none.
     let right: [Press; 4] = [

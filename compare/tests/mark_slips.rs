@@ -1,11 +1,9 @@
 //! The driver of checkpoints, on the model itself and on libraries with a slip each: it must find every one of them.
 use compare::ground::Site;
+use compare::library::{Library, Open, Press, MODEL};
 use compare::marks::{compare, Amount};
-use compare::model::{
-    self, Call, Edit, Lent, Name, Record, Refusal, Reopened, Reply, ACTIVE, JOURNAL, NAMES,
-};
+use compare::model::{self, Call, Edit, Lent, Name, Refusal, Reopened, Reply, ACTIVE, JOURNAL, NAMES};
 use compare::report::Report;
-use compare::session::Calls;
 use std::cell::RefCell;
 use std::rc::Rc;
 
@@ -48,52 +46,11 @@ type OfCalls = fn(&[Call], &State) -> bool;
 type OfCall = fn(&Call) -> bool;
 type Mend = fn(&mut Lent);
 
-/// What a call leaves and replies, from what it was lent.
-type Press<'a> = &'a dyn Fn(&Lent, &Call) -> (Lent, Reply);
-
-/// Reopening, of a journal, its held bytes and a number of cells.
-type Open<'a> = &'a dyn Fn(&[u8], usize, usize) -> Result<Reopened, Refusal>;
-
-/// A library whose presses and reopening may have a slip; all else is the model.
-struct Library<'a> {
-    press: Press<'a>,
-    open: Open<'a>,
-}
-
-impl Calls for Library<'_> {
-    fn fresh(&self, site: &Site, cells: &mut [u16], journal: &mut [u8]) -> Result<Record, u32> {
-        let lent = model::fresh(site, cells, journal)?;
-        cells.copy_from_slice(&lent.cells);
-        journal.copy_from_slice(&lent.journal);
-        Ok(lent.record)
-    }
-
-    fn call(&self, lent: &mut Lent, call: &Call) -> Reply {
-        let (next, reply) = (self.press)(lent, call);
-        *lent = next;
-        reply
-    }
-
-    fn reopen(
-        &self,
-        journal: &[u8],
-        held: usize,
-        cells: &mut [u16],
-    ) -> Result<(Record, usize, usize), Refusal> {
-        let opened = (self.open)(journal, held, cells.len())?;
-        cells.copy_from_slice(&opened.cells);
-        Ok((opened.record, opened.lines, opened.trailing))
-    }
-
-    fn committed(&self, journal: &[u8], held: usize) -> usize {
-        model::committed(journal, held).len()
-    }
-}
-
 /// The differences that comparisons find, and the kinds that were not met.
 fn found(press: Press, open: Open, amount: &Amount) -> (u64, u64) {
     let mut report = Report::quiet();
-    compare(&mut report, &Library { press, open }, amount);
+    let library = Library { press, open, ..MODEL };
+    compare(&mut report, &library, amount);
     (report.differences - report.failures, report.failures)
 }
 
@@ -290,11 +247,7 @@ fn earlier(past: &[State]) -> State {
 #[test]
 fn the_model_has_no_difference() {
     let mut report = Report::default();
-    let model = Library {
-        press: &model::replied,
-        open: &model::reopen,
-    };
-    compare(&mut report, &model, &SMALL);
+    compare(&mut report, &MODEL, &SMALL);
     assert_eq!(report.differences, 0);
     // Nor have the makers of slips, where they are given none.
     assert_eq!(Reader::new(&right).found(&SMALL), (0, 0));
