@@ -86,6 +86,6 @@ build_driver() {
 test_driver() {
     (cd "$compare" && unset RUSTFLAGS &&
         cargo test --quiet --release --offline \
-            --test model --test idle --test marks --test mark_slips --test tally --test crowns --test seeds --test header &&
+            --test model --test idle --test marks --test mark_slips --test tally --test crowns --test seeds --test sizes --test header &&
         cargo test --quiet --profile checked --offline --test overflow)
 }

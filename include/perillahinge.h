@@ -218,7 +218,8 @@ size_t pl_committed_len(const uint8_t *journal, size_t journal_len, size_t held)
 
 /* ---- Cells without a session. size is 1 to 64; count is the number of nonzero cells, which the host keeps. */
 
-/* Lays the ground into cells. Value: the count. Refused: 1 to 6. */
+/* Lays the ground into cells. Value: the count. A cell of the world has the same ground for every size; boulders and
+ * trees break off at a chunk's edge, and differ (README, Chunk sizes). Refused: 1 to 6. */
 pl_answer pl_generate(pl_config config, pl_pos pos, uint16_t *cells, size_t cells_len);
 
 /* Value: the id of a cell. Refused: 1, 6, 7. */

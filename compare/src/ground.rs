@@ -47,31 +47,49 @@ pub fn reach(size: usize) -> (i32, i32) {
     (-(1_000_000 / size), (1_000_001 - size) / size)
 }
 
-/// Whether a block is ground: neither air nor water.
-fn is_ground(id: u16) -> bool {
-    id != original::block::AIR && id != original::block::WATER
+/// What a library lays at a place in the cells that it is lent, and its answer.
+pub type Generate<'a> = &'a dyn Fn(&Site, &mut [u16]) -> Laid;
+
+/// The original as a library.
+pub fn rust_generate(s: &Site, cells: &mut [u16]) -> Laid {
+    let (ours, count) = rust_ground(s);
+    cells.copy_from_slice(&ours);
+    Laid::Count(count)
 }
 
-/// The original's cell at a world place: a chunk of size 1, where no boulder and no tree stands.
-fn probe(s: &Site, world_height_blocks: i32, wx: i32, wy: i32, wz: i32) -> u16 {
-    let one = Site {
+/// The chunk of these settings that has a world cell, and the cell's index in it (SCOPE 2.2, 5.1).
+pub fn chunk_with(s: &Site, place: [i32; 3]) -> (Site, usize) {
+    let n = s.chunk_size;
+    let [cx, cy, cz] = place.map(|w| w.div_euclid(n as i32));
+    let [x, y, z] = place.map(|w| w.rem_euclid(n as i32) as usize);
+    (Site { cx, cy, cz, ..*s }, x + n * (y + n * z))
+}
+
+/// A library's cell at a world place, in a world of another height.
+fn probe(generate: Generate, s: &Site, world_height_blocks: i32, place: [i32; 3]) -> u16 {
+    let lower = Site {
         world_height_blocks,
-        chunk_size: 1,
-        cx: wx,
-        cy: wy,
-        cz: wz,
         ..*s
     };
-    rust_ground(&one).0[0]
+    let (there, i) = chunk_with(&lower, place);
+    let mut cells = vec![STALE; s.chunk_size.pow(3)];
+    generate(&there, &mut cells);
+    cells[i]
 }
 
-/// The height of the original's column. A lower world cuts a column off at its top, and the top
+/// Whether a block is ground: neither air nor water, nor of a tree.
+fn is_ground(id: u16) -> bool {
+    use original::block::{AIR, LEAVES, LOG, WATER};
+    ![AIR, WATER, LOG, LEAVES].contains(&id)
+}
+
+/// The height of a library's column, where no boulder stands. A lower world cuts a column off at its top, and the top
 /// cell of a column is never carved: so the height is found by halving the world's height.
-pub fn height_at(s: &Site, wx: i32, wz: i32) -> i32 {
+pub fn height_by(generate: Generate, s: &Site, wx: i32, wz: i32) -> i32 {
     let (mut low, mut high) = (2, s.world_height_blocks);
     while low < high {
         let middle = (low + high + 1) / 2;
-        if is_ground(probe(s, middle, wx, middle - 2, wz)) {
+        if is_ground(probe(generate, s, middle, [wx, middle - 2, wz])) {
             low = middle;
         } else {
             high = middle - 1;
@@ -80,17 +98,33 @@ pub fn height_at(s: &Site, wx: i32, wz: i32) -> i32 {
     low - 1
 }
 
-/// The original's biome of a column, read from the blocks at depths 2 and 5 of a world of height
+/// The biome of a library's column, read from the blocks at depths 2 and 5 of a world of height
 /// 2, where no cave is carved: gravel is desert, dirt at 5 forest, dirt at 2 only plains.
-pub fn biome_at(s: &Site, wx: i32, wz: i32) -> original::terrain::Biome {
+pub fn biome_by(generate: Generate, s: &Site, wx: i32, wz: i32) -> original::terrain::Biome {
     use original::block::{DIRT, GRAVEL};
     use original::terrain::Biome;
-    match (probe(s, 2, wx, -4, wz), probe(s, 2, wx, -1, wz)) {
+    let [deeper, upper] = [-4, -1].map(|wy| probe(generate, s, 2, [wx, wy, wz]));
+    match (deeper, upper) {
         (GRAVEL, _) => Biome::Desert,
         (DIRT, _) => Biome::Forest,
         (_, DIRT) => Biome::Plains,
         _ => Biome::Mountain,
     }
+}
+
+/// These settings with chunks of size 1, where no boulder and no tree stands.
+fn of_one(s: &Site) -> Site {
+    Site { chunk_size: 1, ..*s }
+}
+
+/// The height of the original's column.
+pub fn height_at(s: &Site, wx: i32, wz: i32) -> i32 {
+    height_by(&rust_generate, &of_one(s), wx, wz)
+}
+
+/// The original's biome of a column.
+pub fn biome_at(s: &Site, wx: i32, wz: i32) -> original::terrain::Biome {
+    biome_by(&rust_generate, &of_one(s), wx, wz)
 }
 
 /// A place whose middle column has this biome.
@@ -107,9 +141,6 @@ pub fn in_biome(rng: &mut Rng, s: Site, biome: original::terrain::Biome) -> Site
         }
     }
 }
-
-/// What a library lays at a place in the cells that it is lent, and its answer.
-pub type Generate<'a> = &'a dyn Fn(&Site, &mut [u16]) -> Laid;
 
 /// Runs both sides on one chunk. Answers the original's cells.
 pub fn chunk(report: &mut Report, s: &Site) -> Vec<u16> {

@@ -23,6 +23,7 @@ pub mod rng;
 pub mod seeds;
 pub mod seen;
 pub mod session;
+pub mod sizes;
 pub mod stack;
 pub mod system;
 pub mod tally;

@@ -1,7 +1,9 @@
 //! Runs every comparison, or only that of the program, or writes the lists for the gate.
 //! Exit status 0: no difference; 1: a difference.
 use compare::report::Report;
-use compare::{chunk, crowns, ground, idle, marks, noise, program, seeds, session, stack, tally, vectors};
+use compare::{
+    chunk, crowns, ground, idle, marks, noise, program, seeds, session, sizes, stack, tally, vectors,
+};
 use std::process::ExitCode;
 
 fn main() -> ExitCode {
@@ -13,6 +15,7 @@ fn main() -> ExitCode {
             noise::run(&mut report);
             ground::run(&mut report);
             seeds::run(&mut report);
+            sizes::run(&mut report);
             crowns::run(&mut report);
             chunk::run(&mut report);
             tally::run(&mut report);

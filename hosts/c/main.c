@@ -482,6 +482,55 @@ static void seeds(void) {
     CHECK(start.number == PL_SEED && again == cell);
 }
 
+/* A viewer's cubes and a tablet's chunk over the same box of the world. */
+enum { TABLET = 32, VIEWER = 16, CUBES = TABLET / VIEWER };
+
+/* What a chunk may have where the ground before boulders and trees is air: also stone, a log, leaves. And where it is
+ * water: also stone. */
+static int over_air(uint16_t id) {
+    return id == 0 || id == 1 || id == 8 || id == 9;
+}
+
+static int over_water(uint16_t id) {
+    return id == 5 || id == 1;
+}
+
+/* Whether two chunks of any sizes may have these ids at one cell of the world. */
+static int one_ground(uint16_t a, uint16_t b) {
+    return a == b || (over_air(a) && over_air(b)) || (over_water(a) && over_water(b));
+}
+
+/* Lays one cube of the viewer's and looks its cells up in the tablet's chunk. Answers how many differ. */
+static size_t look_up(const uint16_t *chunk, pl_config config, pl_pos pos, size_t x, size_t y, size_t z) {
+    static uint16_t cube[VIEWER * VIEWER * VIEWER];
+    const pl_pos place = {pos.cx * CUBES + (int32_t)x, pos.cy * CUBES + (int32_t)y, pos.cz * CUBES + (int32_t)z};
+    size_t apart = 0;
+    config.chunk_size = VIEWER;
+    CHECK(pl_generate(config, place, cube, sizeof cube / sizeof *cube).number == PL_OK);
+    for (size_t i = 0; i < sizeof cube / sizeof *cube; i++) {
+        const size_t tx = x * VIEWER + i % VIEWER, ty = y * VIEWER + i / VIEWER % VIEWER;
+        const size_t tz = z * VIEWER + i / VIEWER / VIEWER;
+        const uint16_t there = chunk[tx + TABLET * (ty + TABLET * tz)];
+        CHECK(one_ground(cube[i], there));
+        apart += cube[i] != there;
+    }
+    return apart;
+}
+
+static void viewer(void) {
+    static uint16_t chunk[TABLET * TABLET * TABLET];
+    const pl_config config = {7, 24, 256, TABLET};
+    size_t apart = 0;
+    for (int32_t cx = -4; cx < 4; cx++) {
+        const pl_pos pos = {cx, 1, -1};
+        CHECK(pl_generate(config, pos, chunk, sizeof chunk / sizeof *chunk).number == PL_OK);
+        for (size_t k = 0; k < CUBES * CUBES * CUBES; k++)
+            apart += look_up(chunk, config, pos, k % CUBES, k / CUBES % CUBES, k / CUBES / CUBES);
+    }
+    /* Trees and boulders were among them. */
+    CHECK(apart > 0);
+}
+
 int main(void) {
     static tablet maps[PRESSES + 1]; /* the map after each line */
     static storage file;
@@ -524,6 +573,7 @@ int main(void) {
     stored_names();
     tallies();
     seeds();
+    viewer();
     printf("host in %s: %zu bytes, a cut at each, the map is there\n",
 #ifdef __cplusplus
            "C++",

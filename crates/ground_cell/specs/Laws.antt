@@ -1,22 +1,23 @@
 -- What holds of every column and every cell of the base (SCOPE 4.6 to 4.10). Assumes nothing.
 use mathlib.Core.Path.{_≡_, refl, sym, ap, ap₂, _∙_, subst}
-use Prim.Native.Nat.{ℕ, _*_, _/_, _%_, _≤_, _<_}
+use Prim.Native.Nat.{ℕ, zero, suc, _+_, _-_, _*_, _/_, _%_, _≤_, _<_}
 use native.Mathlib.Omega.{arith}
 use mathlib.Core.Bool.{Bool, true, false, _&&_, cond}
 use lib.ListN.{length, getD, List·getD-eq-default}
 use lib.Dec.{T, ltb, leb, leb→le, ltb→lt}
 use lib.IntN.{ℤ, pos, negsuc, _+ℤ_, _-ℤ_}
 use lib.Signed.{ltZ, leZ}
-use borrow.Author.Tests.{ltb-true, ltb-false, leb-true, lt-leb, le-ltb}
+use borrow.Author.Tests.{ltb-true, ltb-false, leb-true, le-leb, lt-leb, le-ltb}
 use Rattle.column.specs.Column.{biomeAndHeight}
 use Rattle.column.specs.Heights.{Range, height-range}
 use Rattle.column.specs.declared.Biome.{Biome}
 use Rattle.column.specs.declared.Biome.the-variants.{Desert, Mountain, Forest, Plains}
 use Rattle.grid.specs.Cube.{cellIndex, colOf}
 use Rattle.grid.specs.Grid.{col-x, col-z, index-lt, index-x, index-y, index-z, tab-length, tab-at}
-use Rattle.ground_cell.specs.Blocks.{desertBlock, snowPatch, mountainTop, mountainBlock, shoreBlock, forestBlock, plainsBlock, selectBlock}
+use Rattle.ground_cell.specs.Blocks.{AIR, WATER, desertBlock, snowPatch, mountainTop, mountainBlock, shoreBlock, forestBlock, plainsBlock, selectBlock}
 use Rattle.ground_cell.specs.Caves.{carved}
 use Rattle.ground_cell.specs.World.{Tall, heightAt, biomeAt, biomeNumber, biomeNumbered, topAt, groundCell, columnCell, cellWith, cellUnder, baseCell}
+use Rattle.ground_cell.specs.World.{localOr, localY}
 use Rattle.ground_cell.specs.Base.{baseNumbered, baseCells, columnHeight, columnBiome}
 use Rattle.ground_cell.specs.declared.world.World.{World}
 use Rattle.ground_cell.specs.declared.world.Frame.{Frame}
@@ -132,6 +133,11 @@ base-solid w t wx wy wz e =
     let d = deep (heightAt w wx wz) wy (height-least w t wx wz) e in
     rw (d .0, d .1) (select-block-solid (biomeNumbered (topAt w wx wz .biome)) wy (pos (heightAt w wx wz)) (w .«sea_level») .0)
 
+-- SCOPE 4.7: at a column's height and above there is water or air, by the sea level alone
+pub base-above : (w : World) (wx wz : ℤ) (n : ℕ) → heightAt w wx wz ≤ n → baseCell w wx (pos n) wz ≡ cond (ltZ (pos n) (w .«sea_level»)) WATER AIR
+unfolding baseCell cellUnder cellWith topAt columnCell
+base-above w wx wz n h = rw (le-leb (heightAt w wx wz) n h)
+
 -- a cell of the base is that of its place in the world
 pub base-at : (w : World) (o : Frame) (x y z : ℕ) → x < o .size → y < o .size → z < o .size
     → getD (baseCells w o) (cellIndex (o .size) x y z) 0 ≡ baseCell w (o .ox +ℤ pos x) (o .oy +ℤ pos y) (o .oz +ℤ pos z)
@@ -155,3 +161,15 @@ ids w o i true e =
 
 pub base-ids : (w : World) (o : Frame) (i : ℕ) → getD (baseCells w o) i 0 < 65536
 base-ids w o i = ids w o i (ltb i (length (baseCells w o))) refl
+
+-- where a level lies in the chunk, the chunk's first level and its place give it
+pub level-back : (s : ℕ) (oy : ℤ) (n : ℕ) → localY s oy (pos n) < s → oy +ℤ pos (localY s oy (pos n)) ≡ pos n
+unfolding localY
+level-back s (pos zero) n h = ap pos (let q : 0 + (n + 0) ≡ n = omega arith in q)
+level-back s (pos (suc b)) n h = go (ltb n (suc b)) refl h
+  where
+    go : (t : Bool) → ltb n (suc b) ≡ t → localOr s (cond t (negsuc (suc b - suc n)) (pos (n - suc b))) < s
+        → pos (suc b) +ℤ pos (localOr s (cond t (negsuc (suc b - suc n)) (pos (n - suc b)))) ≡ pos n
+    go true e h = absurd (omega arith)
+    go false e h = let k = ltb-false n (suc b) e in ap pos (let q : suc b + (n - suc b) ≡ n = omega arith in q)
+level-back s (negsuc b) n h = rw (le-ltb (n + suc b) (suc b) (omega arith)) (ap pos (let q : n + suc b - suc b ≡ n = omega arith in q))

@@ -3,12 +3,12 @@ use mathlib.Core.Path.{_≡_, refl, sym, ap, _∙_, subst}
 use Prim.Native.Nat.{ℕ, zero, suc, _+_, _-_, _*_, _/_, _%_, _≤_, _<_}
 use native.Mathlib.Omega.{arith}
 use native.Mathlib.Nat.{mod-lt, div-add-mod'}
-use mathlib.Core.Bool.{Bool, true, false, not, _&&_, cond, false≢true}
+use mathlib.Core.Bool.{Bool, true, false, _&&_, cond, false≢true}
 use mathlib.Core.List.{List}
 use lib.ListN.{getD}
 use lib.Seq.{getD-set-other}
 use lib.Dec.{ltb, eqb}
-use lib.IntN.{ℤ, pos, negsuc, _+ℤ_, _-ℤ_}
+use lib.IntN.{ℤ, pos, _+ℤ_, _-ℤ_}
 use lib.Signed.{ltZ}
 use lib.Ieee.{Float}
 use borrow.Author.Tests.{ltb-true, ltb-false, eqb-true, eqb-false, le-ltb, lt-ltb, lt-leb}
@@ -18,18 +18,17 @@ use Rattle.column.specs.declared.Biome.the-variants.{Desert, Mountain, Forest, 
 use Rattle.grid.specs.Cube.{cellIndex, inside, putAt, seeAt, steps}
 use Rattle.grid.specs.Grid.{index-x, index-z, below-2}
 use Rattle.grid.specs.Grid.{inside-true, see-inside, see-out}
-use Rattle.ground_cell.specs.Blocks.{selectBlock, forestBlock, plainsBlock, shoreBlock}
+use Rattle.ground_cell.specs.Blocks.{STONE, LOG, selectBlock, forestBlock, plainsBlock, shoreBlock}
 use Rattle.ground_cell.specs.World.{Tall, Near, heightAt, biomeAt, biomeNumber, biomeNumbered, topAt}
-use Rattle.ground_cell.specs.World.{groundCell, columnCell, cellWith, cellUnder, baseCell, localOr, localY}
+use Rattle.ground_cell.specs.World.{groundCell, columnCell, cellWith, cellUnder, baseCell, localY}
 use Rattle.ground_cell.specs.Base.{columnHeight, columnBiome, baseCells}
-use Rattle.ground_cell.specs.Laws.{base-at, height-least}
+use Rattle.ground_cell.specs.Laws.{base-at, height-least, level-back}
 use Rattle.ground_cell.specs.declared.world.World.{World}
 use Rattle.ground_cell.specs.declared.world.Frame.{Frame}
 use Rattle.ground_cell.specs.declared.world.Top.{Top}
-use Rattle.ground_trees.specs.Signs.{rangeLength}
-use Rattle.ground_trees.specs.Features.{insetIn, pillarStep, pillarOf, boulderHash, boulderBlocks, placeBoulder, boulderColumn, boulderStep, bouldersOf}
-use Rattle.ground_trees.specs.Features.{leafAt, offsetOr, hasLeaf, leafStep, layerStep, layerOf, leafRadius, canopyStep, canopyOf}
-use Rattle.ground_trees.specs.Features.{growOf, trunkHeight, plantOf, treeHash, varietyOf, treeGrows, isGiant, placeTree, treeColumn, treeStep, treesOf, topOf}
+use Rattle.ground_trees.specs.Features.{insetIn, placeBoulder, boulderColumn, boulderStep, bouldersOf, leafAt}
+use Rattle.ground_trees.specs.Features.{treeHash, treeGrows, placeTree, treeColumn, treeStep, treesOf, topOf}
+use Rattle.ground_trees.specs.Kept.{OnTop, Keeps, keeps-same, keeps-more, steps-kept, boulder-kept, tree-kept}
 use Rattle.ground_slabs.specs.Grown.{standColumn, standStep}
 
 -- ---- a cell of grass that others do not touch
@@ -38,16 +37,6 @@ module _ (s x0 y0 z0 : ℕ) (hx : x0 < s) (hy : y0 < s) where
   -- the cell holds grass
   abbrev Grass : List ℕ → Type 0
   Grass c = getD c (cellIndex s x0 y0 z0) 0 ≡ 3
-
-  -- steps that keep it
-  steps-grass : (n : ℕ) (f : ℕ → List ℕ → List ℕ) (c : List ℕ) → ((k : ℕ) (d : List ℕ) → k < n → Grass d → Grass (f k d)) → Grass c → Grass (steps n f c)
-  unfolding steps
-  steps-grass zero f c h g = g
-  steps-grass (suc n) f c h g = h n (steps n f c) (omega arith) (steps-grass n f c (λ k d l. h k d (omega arith)) g)
-
-  if-grass : (b : Bool) (c d : List ℕ) → Grass c → Grass d → Grass (cond b c d)
-  if-grass true c d p q = p
-  if-grass false c d p q = q
 
   -- a block in another column
   put-grass : (x y z v : ℕ) (c : List ℕ) → (x ≡ x0 → z ≡ z0 → ⊥) → Grass c → Grass (putAt s x y z v c)
@@ -73,67 +62,24 @@ module _ (s x0 y0 z0 : ℕ) (hx : x0 < s) (hy : y0 < s) where
       (λ a. rw (e, a) g))
       (λ e. rw e g)
 
-  pillar-grass : (oy : ℤ) (x z y n v : ℕ) (c : List ℕ) → (x ≡ x0 → z ≡ z0 → ⊥) → Grass c → Grass (pillarOf s oy x z y n v c)
-  unfolding pillarOf pillarStep
-  pillar-grass oy x z y n v c h g = steps-grass n (pillarStep s oy x z y v) c (λ k d l m. put-grass x (localY s oy (pos (y + k))) z v d h m) g
+  steps-grass : (n : ℕ) (f : ℕ → List ℕ → List ℕ) (c : List ℕ) → ((k : ℕ) (d : List ℕ) → k < n → Keeps Grass d (f k d)) → Keeps Grass c (steps n f c)
+  steps-grass = steps-kept (Keeps Grass) (keeps-same Grass) (keeps-more Grass)
 
-  layer-grass : (x z : ℕ) (wx wz : ℤ) (y r l : ℕ) (c : List ℕ) → Grass c → Grass (layerOf s x z wx wz y r l c)
-  unfolding layerOf layerStep leafStep
-  layer-grass x z wx wz y r l c g =
-      let n = 2 * r + 1 in
-      steps-grass (n * n) (layerStep s x z wx wz y r l) c
-      (λ k d b m. if-grass (hasLeaf wx wz r l (k / n) (k % n)) _ d (leaf-grass (offsetOr s x (k / n) r) y (offsetOr s z (k % n) r) d m) m) g
+module _ (o : Frame) (x0 y0 z0 : ℕ) (hx : x0 < o .size) (hy : y0 < o .size) (t : Top) (x z : ℕ) (other : x ≡ x0 → z ≡ z0 → ⊥) where
+  abbrev Here : List ℕ → Type 0
+  Here = Grass (o .size) x0 y0 z0 hx hy
 
-  grow-grass : (oy : ℤ) (x z : ℕ) (wx wz : ℤ) (y : ℕ) (trunk : ℤ) (r n : ℕ) (c : List ℕ) → (x ≡ x0 → z ≡ z0 → ⊥)
-      → Grass c → Grass (growOf s oy x z wx wz y trunk r n c)
-  unfolding growOf canopyOf canopyStep
-  grow-grass oy x z wx wz y trunk r n c h g =
-      steps-grass (n + 1) (canopyStep s oy x z wx wz (pos y +ℤ trunk) r n) (pillarOf s oy x z y (rangeLength trunk) 8 c)
-      (λ l d b m. layer-grass x z wx wz (localY s oy (pos y +ℤ trunk +ℤ (pos l -ℤ pos 1))) (leafRadius r n l) l d m)
-      (pillar-grass oy x z y (rangeLength trunk) 8 c h g)
+  -- boulders and trees of another column keep it
+  put-other : (v : ℕ) → OnTop (Keeps Here) o t x z v
+  put-other v j c = put-grass (o .size) x0 y0 z0 hx hy x (localY (o .size) (o .oy) (pos (t .height + j))) z v c other
 
-  plant-grass : (oy : ℤ) (x z : ℕ) (wx wz : ℤ) (y : ℕ) (big : Bool) (v : Float) (c : List ℕ) → (x ≡ x0 → z ≡ z0 → ⊥)
-      → Grass c → Grass (plantOf s oy x z wx wz y big v c)
-  unfolding plantOf
-  plant-grass oy x z wx wz y true v c h g = grow-grass oy x z wx wz y (trunkHeight true v) 4 4 c h g
-  plant-grass oy x z wx wz y false v c h g = grow-grass oy x z wx wz y (trunkHeight false v) 2 3 c h g
+  boulder-grass : (c : List ℕ) → Keeps Here c (boulderColumn o t x z c)
+  boulder-grass = boulder-kept (Keeps Here) (keeps-same Here) (keeps-more Here) o t x z (put-other STONE)
 
-module _ (o : Frame) (x0 y0 z0 : ℕ) (hx : x0 < o .size) (hy : y0 < o .size) where
-  tree-grass : (sea : ℤ) (t : Top) (x z : ℕ) (c : List ℕ) → (x ≡ x0 → z ≡ z0 → ⊥)
-      → Grass (o .size) x0 y0 z0 hx hy c → Grass (o .size) x0 y0 z0 hx hy (treeColumn o sea t x z c)
-  unfolding treeColumn placeTree
-  tree-grass sea t x z c h g =
-      let wx = o .ox +ℤ pos x in
-      let wz = o .oz +ℤ pos z in
-      let if = if-grass (o .size) x0 y0 z0 hx hy in
-      if (insetIn 2 (o .size) x z) _ c
-      (if (ltZ (pos (t .height) -ℤ sea) (pos 3)) c _ g
-      (if (treeGrows (t .biome) (treeHash wx wz)) _ c
-      (if (eqb (seeAt (o .size) x (localY (o .size) (o .oy) (pos (t .height - 1))) z c) 3) _ c
-      (plant-grass (o .size) x0 y0 z0 hx hy (o .oy) x z wx wz (t .height) (isGiant (t .biome) (varietyOf wx wz)) (varietyOf wx wz) c h g) g) g)) g
-
-  boulder-grass : (t : Top) (x z : ℕ) (c : List ℕ) → (x ≡ x0 → z ≡ z0 → ⊥)
-      → Grass (o .size) x0 y0 z0 hx hy c → Grass (o .size) x0 y0 z0 hx hy (boulderColumn o t x z c)
-  unfolding boulderColumn placeBoulder
-  boulder-grass t x z c h g =
-      let if = if-grass (o .size) x0 y0 z0 hx hy in
-      if (insetIn 1 (o .size) x z) _ c
-      (if (eqb (t .biome) 1) _ c
-      (pillar-grass (o .size) x0 y0 z0 hx hy (o .oy) x z (t .height) (boulderBlocks (boulderHash (o .ox +ℤ pos x) (o .oz +ℤ pos z))) 1 c h g) g) g
+  tree-grass : (sea : ℤ) (c : List ℕ) → Keeps Here c (treeColumn o sea t x z c)
+  tree-grass sea = tree-kept (Keeps Here) (keeps-same Here) (keeps-more Here) o t x z (leaf-grass (o .size) x0 y0 z0 hx hy) sea (λ h. put-other LOG)
 
 -- ---- the surface of a column that may have a tree
-
--- where a level lies in the chunk, the chunk's first level and its place give it
-level-back : (s : ℕ) (oy : ℤ) (n : ℕ) → localY s oy (pos n) < s → oy +ℤ pos (localY s oy (pos n)) ≡ pos n
-unfolding localY
-level-back s (pos zero) n h = ap pos (let q : 0 + (n + 0) ≡ n = omega arith in q)
-level-back s (pos (suc b)) n h = go (ltb n (suc b)) refl h
-  where
-    go : (t : Bool) → ltb n (suc b) ≡ t → localOr s (cond t (negsuc (suc b - suc n)) (pos (n - suc b))) < s
-        → pos (suc b) +ℤ pos (localOr s (cond t (negsuc (suc b - suc n)) (pos (n - suc b)))) ≡ pos n
-    go true e h = absurd (omega arith)
-    go false e h = let k = ltb-false n (suc b) e in ap pos (let q : suc b + (n - suc b) ≡ n = omega arith in q)
-level-back s (negsuc b) n h = rw (le-ltb (n + suc b) (suc b) (omega arith)) (ap pos (let q : n + suc b - suc b ≡ n = omega arith in q))
 
 -- forest or plains
 record Green (b : Biome) : Type 0 where
@@ -224,7 +170,7 @@ module _ (w : World) (o : Frame) (tall : Tall w) (near : Near o) where
       (λ j d l a. by-bool (eqb j k)
       (λ e. subst (λ (u : ℕ). GrassAt k m (boulderColumn o (t u) (u % s) (u / s) d)) (sym (eqb-true j k e))
       (subst (GrassAt k m) (sym (boulder-none k m d)) a))
-      (λ e. boulder-grass o (k % s) y (k / s) (x-in k) (m .here) (t j) (j % s) (j / s) d (apart j k (eqb-false j k e)) a))
+      (λ e. boulder-grass o (k % s) y (k / s) (x-in k) (m .here) (t j) (j % s) (j / s) (apart j k (eqb-false j k e)) d a))
       g
 
   trees-grass : (k : ℕ) (m : May k) (n : ℕ) (c : List ℕ) → n ≤ k → GrassAt k m c → GrassAt k m (steps n (treeStep o (w .«sea_level») (topOf w o)) c)
@@ -235,7 +181,7 @@ module _ (w : World) (o : Frame) (tall : Tall w) (near : Near o) where
       let y = surfaceOf w o k in
       let sea = w .«sea_level» in
       steps-grass s (k % s) y (k / s) (x-in k) (m .here) n (treeStep o sea t) c
-      (λ j d l a. tree-grass o (k % s) y (k / s) (x-in k) (m .here) sea (t j) (j % s) (j / s) d (apart j k (λ e. omega arith)) a)
+      (λ j d l a. tree-grass o (k % s) y (k / s) (x-in k) (m .here) (t j) (j % s) (j / s) (apart j k (λ e. omega arith)) sea d a)
       g
 
   -- one column: the look at the surface says what the top says

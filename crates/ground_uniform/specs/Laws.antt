@@ -8,7 +8,7 @@ use mathlib.Core.List.{List, _∷_, [], _++_}
 use lib.Dec.{ltb}
 use lib.IntN.{ℤ, pos, negsuc, _+ℤ_}
 use lib.Signed.{ltZ, leZ}
-use borrow.Author.Tests.{leb-true, ltb-true, lt-ltb, le-ltb, le-leb}
+use borrow.Author.Tests.{leb-true, ltb-true, lt-ltb, le-ltb}
 use Rattle.basics.specs.Bools.{and-both}
 use Rattle.grid.specs.Cube.{tab}
 use Rattle.column.specs.declared.Biome.{Biome}
@@ -16,7 +16,7 @@ use Rattle.column.specs.declared.Biome.the-variants.{Desert, Mountain, Forest, 
 use Rattle.ground_cell.specs.Blocks.{desertBlock, mountainBlock, forestBlock, plainsBlock, selectBlock}
 use Rattle.ground_cell.specs.World.{Tall, Near, heightAt, biomeNumbered, topAt, groundCell, columnCell, cellWith, cellUnder, baseCell, localY}
 use Rattle.ground_cell.specs.Base.{baseNumbered, baseCells, columnHeight}
-use Rattle.ground_cell.specs.Laws.{height-least, height-most, column-most}
+use Rattle.ground_cell.specs.Laws.{height-least, height-most, column-most, base-above}
 use Rattle.ground_cell.specs.declared.world.World.{World}
 use Rattle.ground_cell.specs.declared.world.Frame.{Frame}
 use Rattle.ground_trees.specs.Features.{bouldersOf, treesOf, topOf}
@@ -107,8 +107,7 @@ above-of r top sea (pos a) p q = record { a = a; is = refl; far = leb-true (top 
 above-of r top sea (negsuc a) p q = absurd (false≢true q)
 
 air-over : (w : World) (t : Tall w) (wx wz : ℤ) (n : ℕ) → t .top ≤ n → ltZ (pos n) (w .«sea_level») ≡ false → baseCell w wx (pos n) wz ≡ 0
-unfolding baseCell cellUnder cellWith topAt columnCell
-air-over w t wx wz n h e = let m = height-most w t wx wz in rw (le-leb (heightAt w wx wz) n (omega arith), e)
+air-over w t wx wz n h e = let m = height-most w t wx wz in base-above w wx wz n (omega arith) ∙ rw e
 
 -- a level below the chunk counts as outside
 local-below : (s a y : ℕ) → y < a → s ≤ localY s (pos a) (pos y)

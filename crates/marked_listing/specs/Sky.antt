@@ -7,12 +7,10 @@ use Prim.Native.Nat.{ℕ, _≤_}
 use native.Mathlib.Omega.{arith}
 use lib.IntN.{ℤ, pos}
 use lib.Signed.{ltZ}
-use lib.Dec.{leb}
-use borrow.Author.Tests.{le-leb}
 use Rattle.grid.specs.Cube.{tab, steps}
-use Rattle.ground_cell.specs.World.{Tall, heightAt, topAt, columnCell, cellWith, cellUnder, baseCell}
+use Rattle.ground_cell.specs.World.{Tall, baseCell}
 use Rattle.ground_cell.specs.Base.{baseNumbered, baseCells}
-use Rattle.ground_cell.specs.Laws.{height-most}
+use Rattle.ground_cell.specs.Laws.{height-most, base-above}
 use Rattle.ground_cell.specs.declared.world.World.{World}
 use Rattle.ground_cell.specs.declared.world.Top.{Top}
 use Rattle.ground_trees.specs.Features.{insetIn, boulderColumn, boulderStep, bouldersOf, treeColumn, treeStep, treesOf, topOf}
@@ -22,11 +20,7 @@ use Rattle.ground.specs.Ground.{groundIn, worldOf, frameOf, frameWith, ground}
 
 -- a cell no lower than the greatest height, and below the sea
 pub sky-water : (w : World) (t : Tall w) (wx wz : ℤ) (n : ℕ) → t .top ≤ n → ltZ (pos n) (w .«sea_level») ≡ true → baseCell w wx (pos n) wz ≡ 5
-unfolding baseCell cellUnder cellWith columnCell topAt
-sky-water w t wx wz n h s =
-    let m = height-most w t wx wz in
-    let k : leb (heightAt w wx wz) n ≡ true = le-leb (heightAt w wx wz) n (omega arith) in
-    rw (k, s)
+sky-water w t wx wz n h s = let m = height-most w t wx wz in base-above w wx wz n (omega arith) ∙ rw s
 
 abbrev pub eightWaters : List ℕ
 eightWaters = 5 ∷ 5 ∷ 5 ∷ 5 ∷ 5 ∷ 5 ∷ 5 ∷ 5 ∷ []

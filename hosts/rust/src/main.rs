@@ -618,6 +618,48 @@ fn tallies() -> Result<(), String> {
     Ok(())
 }
 
+/// Whether two chunks of any sizes may have these ids at one cell of the world: where the ground before boulders and trees is
+/// air, a chunk may also have stone, a log or leaves; where it is water, also stone.
+fn one_ground(a: u16, b: u16) -> bool {
+    let both = |ids: &[u16]| ids.contains(&a) && ids.contains(&b);
+    a == b || both(&[0, 1, 8, 9]) || both(&[5, 1])
+}
+
+/// A viewer's cubes of 16 over the box of a tablet's chunk of 32.
+fn viewer() -> Result<(), String> {
+    let config = Config {
+        seed: 7,
+        sea_level: 24,
+        world_height_blocks: 256,
+        chunk_size: 32,
+    };
+    let small = Config {
+        chunk_size: 16,
+        ..config
+    };
+    let (mut chunk, mut cube) = (vec![0; 32 * 32 * 32], vec![0; 16 * 16 * 16]);
+    for (cx, k) in (-4..4).flat_map(|cx| (0..8).map(move |k| (cx, k))) {
+        let (x, y, z) = (k % 2, k / 2 % 2, k / 4);
+        let (place, part) = (Pos { cx, cy: 1, cz: -1 }, [2 * cx + x, 2 + y, z - 2]);
+        let [cx, cy, cz] = part;
+        let laid = map::generate(config, place, &mut chunk).is_ok();
+        check(
+            laid && map::generate(small, Pos { cx, cy, cz }, &mut cube).is_ok(),
+            "both sizes are laid",
+        )?;
+        let corner = 16 * (x + 32 * (y + 32 * z)) as usize;
+        let same = cube
+            .iter()
+            .enumerate()
+            .all(|(i, &id)| one_ground(id, chunk[corner + i % 16 + 32 * (i / 16 % 16 + 32 * (i / 256))]));
+        check(
+            same,
+            &format!("the ground of the cube at {part:?} in a chunk of 32"),
+        )?;
+    }
+    Ok(())
+}
+
 fn run() -> Result<usize, String> {
     let mut tablet = begin()?;
     let mut maps = vec![tablet.clone()];
@@ -656,6 +698,7 @@ fn run() -> Result<usize, String> {
     checkpoints()?;
     many()?;
     tallies()?;
+    viewer()?;
     Ok(stored.len())
 }
 
