@@ -95,14 +95,15 @@ module _ (s : TerrainConfig) (p : ChunkPos) where
       → GenerateGives k answer ≡ (cellsOutcome (saysGenerated answer) (now (k .cells′)) ≡ generateDoes s p (now (k .cells)))
   generate-says k answer = refl
 
-  -- a chunk before boulders and trees, as the code left it
-  pub record LaidBase : Type 1 where
-    pub tops : TopsCall
-    pub noted : TopsGive tops
-    pub rows : BaseCall
-    pub laid : BaseGives rows
+  -- such calls as they were made; `generate` refused nothing, and answered a count
+  pub record NotedTops : Type 1 where
+    pub call : TopsCall
+    pub gives : TopsGive call
 
-  -- a chunk that `generate` laid: it was not refused, and answered a count
+  pub record LaidRows : Type 1 where
+    pub call : BaseCall
+    pub gives : BaseGives call
+
   pub record Generates : Type 1 where
     pub call : GenerateCall
     pub count : ℕ

@@ -12,7 +12,7 @@ use Rattle.grid.specs.Cube.{cellIndex}
 use Rattle.ground_cell.specs.World.{baseCell}
 use Rattle.ground.specs.Ground.{worldOf}
 use Rattle.ground_sizes.specs.Over.{Over}
-use Rattle.ground_sizes.specs.Contracts.{LaidBase, Generates}
+use Rattle.ground_sizes.specs.Contracts.{NotedTops, LaidRows, Generates}
 
 -- settings that differ in size only
 pub record SizeOnly (s t : TerrainConfig) : Type 0 where
@@ -41,36 +41,31 @@ module _ {s : TerrainConfig} {p : ChunkPos} {wx wy wz : ℤ} (a : Lies s p wx wy
   columnOf = a .z .at * s .«chunk_size» + a .x .at
 
   -- its row is one of those that were laid
-  pub record RowCovered (c : LaidBase s p) : Type 0 where
-    pub from : c .rows .first ≤ a .z .at
-    pub to : a .z .at < c .rows .last
-
--- a chunk before boulders and trees: its cells, and the heights and biomes of its columns
-pub record BaseLists : Type 0 where
-  pub cells : List ℕ
-  pub heights : List ℕ
-  pub biomes : List ℕ
-
-abbrev pub asLeft : {s : TerrainConfig} {p : ChunkPos} → LaidBase s p → BaseLists
-asLeft c = record { cells = now (c .rows .cells′); heights = now (c .tops .heights′); biomes = now (c .tops .biomes′) }
+  pub record RowCovered (c : LaidRows s p) : Type 0 where
+    pub from : c .call .first ≤ a .z .at
+    pub to : a .z .at < c .call .last
 
 -- a cell of the world that lies in two chunks
 module _ {s t : TerrainConfig} {p q : ChunkPos} {wx wy wz : ℤ} (a : Lies s p wx wy wz) (b : Lies t q wx wy wz) where
-  -- they have one id there, and of its column one height and one biome
-  pub record SameAt (c d : BaseLists) : Type 0 where
-    pub id : getD (c .cells) (cellOf a) 0 ≡ getD (d .cells) (cellOf b) 0
-    pub height : getD (c .heights) (columnOf a) 0 ≡ getD (d .heights) (columnOf b) 0
-    pub biome : getD (c .biomes) (columnOf a) 0 ≡ getD (d .biomes) (columnOf b) 0
+  -- lists of the chunks' cells have one id there, lists of their columns one number
+  abbrev pub SameCell : List ℕ → List ℕ → Type 0
+  SameCell c d = getD c (cellOf a) 0 ≡ getD d (cellOf b) 0
 
-  -- each has the world's id there, or what a boulder or a tree laid over that
+  abbrev pub SameColumn : List ℕ → List ℕ → Type 0
+  SameColumn c d = getD c (columnOf a) 0 ≡ getD d (columnOf b) 0
+
+  -- each list of cells has the world's id there, or what a boulder or a tree laid over that
   pub record OverSame (c d : List ℕ) : Type 0 where
     pub first : Over (baseCell (worldOf s) wx wy wz) (getD c (cellOf a) 0)
     pub second : Over (baseCell (worldOf s) wx wy wz) (getD d (cellOf b) 0)
 
   pub record OneGround : Type 1 where
-    -- before boulders and trees, as `note_tops` and `lay_base` leave two chunks, whichever rows were laid
-    pub before : (c : LaidBase s p) (d : LaidBase t q) → RowCovered a c → RowCovered b d → SameAt (asLeft c) (asLeft d)
-    -- after them, as `generate` leaves two chunks
+    -- before boulders and trees, as `lay_base` leaves two chunks, whichever rows it laid
+    pub id : (c : LaidRows s p) (d : LaidRows t q) → RowCovered a c → RowCovered b d → SameCell (now (c .call .cells′)) (now (d .call .cells′))
+    -- as `note_tops` leaves two chunks
+    pub height : (c : NotedTops s p) (d : NotedTops t q) → SameColumn (now (c .call .heights′)) (now (d .call .heights′))
+    pub biome : (c : NotedTops s p) (d : NotedTops t q) → SameColumn (now (c .call .biomes′)) (now (d .call .biomes′))
+    -- after boulders and trees, as `generate` leaves two chunks
     pub after : (c : Generates s p) (d : Generates t q) → OverSame (now (c .call .cells′)) (now (d .call .cells′))
 
 -- so for all settings that differ in size only (accepted ones are a case), and every cell of the world that lies in a chunk of each

@@ -19,7 +19,7 @@ use Rattle.ground_cell.specs.World.{Tall, baseCell}
 use Rattle.ground_cell.specs.Base.{baseNumbered, baseCells, columnHeight, columnBiome}
 use Rattle.ground_cell.specs.Laws.{base-length, base-above, height-most}
 use Rattle.ground.specs.Ground.{worldOf, frameOf, ground, generateRefusal, generateDoes}
-use Rattle.ground_sizes.specs.Contracts.{LentNumbers, LentFloats, LaidBase, Generates}
+use Rattle.ground_sizes.specs.Contracts.{LentNumbers, LentFloats, NotedTops, LaidRows, Generates}
 use Rattle.ground_sizes.specs.Statement.{Lies, RowCovered}
 
 -- a slice somewhere that holds these numbers, and one of f32 that holds none
@@ -33,11 +33,9 @@ module _ (s : TerrainConfig) (p : ChunkPos) where
   abbrev noted : (ℕ → ℕ) → LentNumbers
   noted f = let n = frameOf s p .size * frameOf s p .size in holding (tab n f ++ drop n [])
 
-  -- all rows, over cells that hold the base already
-  unfoldable pub all-laid : LaidBase s p
-  unfolding baseCells
-  all-laid = record {
-    tops = record {
+  pub all-noted : NotedTops s p
+  all-noted = record {
+    call = record {
       lifetimes = ([], ([], ([], ([], tt))));
       floors = holding [];
       eases = noFloats;
@@ -48,8 +46,14 @@ module _ (s : TerrainConfig) (p : ChunkPos) where
       heights′ = noted (columnHeight (worldOf s) (frameOf s p));
       biomes′ = noted (columnBiome (worldOf s) (frameOf s p));
     };
-    noted = (refl, refl);
-    rows = record {
+    gives = (refl, refl);
+  }
+
+  -- all rows, over cells that hold the base already
+  unfoldable pub all-laid : LaidRows s p
+  unfolding baseCells
+  all-laid = record {
+    call = record {
       lifetimes = ([], ([], ([], ([], ([], tt)))));
       first = 0;
       last = frameOf s p .size;
@@ -60,7 +64,7 @@ module _ (s : TerrainConfig) (p : ChunkPos) where
       cells = holding (baseCells (worldOf s) (frameOf s p));
       cells′ = holding (baseCells (worldOf s) (frameOf s p));
     };
-    laid = record {
+    gives = record {
       all = base-length (worldOf s) (frameOf s p);
       each = λ i a h. tab-at _ (baseNumbered (worldOf s) (frameOf s p)) i h;
       kept = λ i a. refl;
