@@ -1,5 +1,5 @@
 # shellcheck shell=bash
-# What compare/run and compare/bench share: finds the tools and folders, and builds the product's
+# What the scripts of this folder share: finds the tools and folders, and builds the product's
 # archive, the program and the driver. Sourced, not run. Exit status 2: something is missing.
 compare=$(cd "$(dirname "${BASH_SOURCE[0]}")" && pwd)
 root=$(dirname "$compare")
@@ -86,6 +86,6 @@ build_driver() {
 test_driver() {
     (cd "$compare" && unset RUSTFLAGS &&
         cargo test --quiet --release --offline \
-            --test model --test idle --test marks --test mark_slips --test tally --test crowns --test seeds --test sizes --test header &&
+            --test model --test idle --test marks --test mark_slips --test tally --test planes --test crowns --test seeds --test sizes --test header &&
         cargo test --quiet --profile checked --offline --test overflow)
 }

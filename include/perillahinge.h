@@ -51,6 +51,8 @@ enum pl_number {
     PL_NAME = 25,           /* a name that is not 1 to 16 bytes, each of a to z or 0 to 9 */
     PL_UNKNOWN_NAME = 26,   /* restore: no checkpoint has this name */
     PL_MANY_NAMES = 27,     /* checkpoint: a seventeenth name */
+    PL_PLANES_SIZE = 28,    /* planes: size not 1, 2, 4, 8, 16, 32 or 64 */
+    PL_PLANES_BYTES = 29,   /* planes: bytes not 2 * size * size * size long */
     PL_FACE = 99            /* this interface alone: a number that names no face */
 };
 
@@ -263,6 +265,18 @@ pl_answer pl_extract_border(const uint16_t *cells, size_t cells_len, size_t size
  * short. Value: how many ids. Refused: 1, 6, 13 (either list). */
 pl_answer pl_tally(const uint16_t *cells, size_t cells_len, size_t size, uint16_t *ids, size_t ids_len,
                    uint32_t *counts, size_t counts_len);
+
+/* ---- Planes: a chunk's cells as bytes for a shelf copy, near cells near each other. The cells are taken in Morton
+ * order: the position of the cell (x, y, z) has bit 0 of x, of y and of z as its bits 0, 1 and 2, bit 1 of each as its
+ * bits 3, 4 and 5, and so on. The byte at a position is that cell's id modulo 256; the byte size * size * size further
+ * on is its id divided by 256. Each call undoes the other, whatever ids and bytes they are. size is 1, 2, 4, 8, 16, 32
+ * or 64. The bytes tell neither size nor settings nor place, and have no checksum: a host keeps those beside them. */
+
+/* Copies the cells into bytes, 2 * size * size * size long. Value: 0. Refused: 28, 6, 29. */
+pl_answer pl_to_planes(const uint16_t *cells, size_t cells_len, size_t size, uint8_t *bytes, size_t bytes_len);
+
+/* Restores the cells from bytes, 2 * size * size * size long. Value: 0. Refused: 28, 6, 29. */
+pl_answer pl_from_planes(const uint8_t *bytes, size_t bytes_len, size_t size, uint16_t *cells, size_t cells_len);
 
 /* ---- The noise under the ground, for comparisons: they answer for every number, NaN and infinities too. */
 

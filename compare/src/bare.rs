@@ -193,3 +193,62 @@ pub fn border_refusal(cells: &[u16], size: usize, border: usize) -> u32 {
         number => number,
     }
 }
+
+/// The sizes of the chunks that have planes.
+pub const PLANES: [usize; 7] = [1, 2, 4, 8, 16, 32, 64];
+
+/// The position of a cell in Morton order (SCOPE 5.12): bit 0 of x, of y and of z, x lowest, then bit 1 of each, and so on. No
+/// coordinate of a chunk has more than six bits.
+pub fn morton(at: [usize; 3]) -> usize {
+    let mut position = 0;
+    for bit in 0..6 {
+        for (axis, coordinate) in at.iter().enumerate() {
+            position += ((coordinate >> bit) % 2) << (3 * bit + axis);
+        }
+    }
+    position
+}
+
+/// The positions of a chunk's cells, in the order of the slice.
+fn positions(size: usize) -> impl Iterator<Item = usize> {
+    (0..size * size * size).map(move |i| morton([i % size, i / size % size, i / size / size]))
+}
+
+/// The refusal of either call on planes (SCOPE 10.4), 0 for none: 28 in place of 1, 6, and 29 where the bytes are not 2 × size³.
+fn planes_refusal(cells: usize, size: usize, bytes: usize) -> u32 {
+    if !PLANES.contains(&size) {
+        28
+    } else if cells != size * size * size {
+        6
+    } else if bytes != 2 * size * size * size {
+        29
+    } else {
+        0
+    }
+}
+
+/// All low bytes in Morton order, then all high bytes.
+pub fn to_planes(cells: &[u16], size: usize, bytes: &mut [u8]) -> Reply {
+    let number = planes_refusal(cells.len(), size, bytes.len());
+    if number != 0 {
+        return refused(number);
+    }
+    for (&id, position) in cells.iter().zip(positions(size)) {
+        bytes[position] = (id % 256) as u8;
+        bytes[cells.len() + position] = (id / 256) as u8;
+    }
+    accepted(0)
+}
+
+/// The cells whose planes these bytes are.
+pub fn from_planes(bytes: &[u8], size: usize, cells: &mut [u16]) -> Reply {
+    let number = planes_refusal(cells.len(), size, bytes.len());
+    if number != 0 {
+        return refused(number);
+    }
+    let many = cells.len();
+    for (id, position) in cells.iter_mut().zip(positions(size)) {
+        *id = u16::from(bytes[position]) + 256 * u16::from(bytes[many + position]);
+    }
+    accepted(0)
+}

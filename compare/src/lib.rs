@@ -15,6 +15,8 @@ pub mod model;
 pub mod names;
 pub mod native;
 pub mod noise;
+pub mod plain_planes;
+pub mod planes;
 pub mod presses;
 pub mod product;
 pub mod program;

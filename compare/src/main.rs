@@ -2,7 +2,7 @@
 //! Exit status 0: no difference; 1: a difference.
 use compare::report::Report;
 use compare::{
-    chunk, crowns, ground, idle, marks, noise, program, seeds, session, sizes, stack, tally, vectors,
+    chunk, crowns, ground, idle, marks, noise, planes, program, seeds, session, sizes, stack, tally, vectors,
 };
 use std::process::ExitCode;
 
@@ -19,6 +19,7 @@ fn main() -> ExitCode {
             crowns::run(&mut report);
             chunk::run(&mut report);
             tally::run(&mut report);
+            planes::run(&mut report);
             session::run(&mut report);
             idle::run(&mut report);
             marks::run(&mut report);

@@ -41,7 +41,7 @@ fn number(number: u32, rest: bool) -> u32 {
 }
 
 /// The answer of a call on bare cells. Its line is 0; the value is compared by the caller.
-fn answer(answer: raw::Answer) -> Reply {
+pub fn answer(answer: raw::Answer) -> Reply {
     Reply {
         number: number(answer.number, answer.line == 0),
         value: u32::try_from(answer.value).unwrap_or(u32::MAX),
@@ -119,6 +119,18 @@ pub fn extract_border(cells: &[u16], size: usize, face: u32, border: &mut [u16])
 pub fn tally(cells: &[u16], size: usize, ids: &mut [u16], counts: &mut [u32]) -> Reply {
     let (c, n, i, m) = (cells.as_ptr(), cells.len(), ids.as_mut_ptr(), ids.len());
     answer(unsafe { raw::pl_tally(c, n, size, i, m, counts.as_mut_ptr(), counts.len()) })
+}
+
+/// The cells are only to be read. They are lent as the C interface could write them, so that a write is seen.
+pub fn to_planes(cells: &mut [u16], size: usize, bytes: &mut [u8]) -> Reply {
+    let (c, n, b, m) = (cells.as_mut_ptr(), cells.len(), bytes.as_mut_ptr(), bytes.len());
+    answer(unsafe { raw::pl_to_planes(c, n, size, b, m) })
+}
+
+/// Here it is the bytes that are only to be read.
+pub fn from_planes(bytes: &mut [u8], size: usize, cells: &mut [u16]) -> Reply {
+    let (b, m, c, n) = (bytes.as_mut_ptr(), bytes.len(), cells.as_mut_ptr(), cells.len());
+    answer(unsafe { raw::pl_from_planes(b, m, size, c, n) })
 }
 
 fn session(r: &Record) -> Session {

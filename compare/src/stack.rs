@@ -142,6 +142,7 @@ pub fn measure(report: &mut Report) -> Vec<(&'static str, usize)> {
     let few = groups();
     let mut border = vec![0; 64 * 64];
     let (mut ids, mut counts) = (vec![0; 65_535], vec![0; 65_535]);
+    let mut planes = vec![0; 2 * 64 * 64 * 64];
     let mut journal = vec![0; 32_768];
     let lent = || Lent {
         record: long.record,
@@ -186,6 +187,12 @@ pub fn measure(report: &mut Report) -> Vec<(&'static str, usize)> {
     });
     note("tally", &mut || {
         keep(product::tally(&blocks, 64, &mut ids, &mut counts))
+    });
+    note("to_planes", &mut || {
+        keep(product::to_planes(&mut cells, 64, &mut planes))
+    });
+    note("from_planes", &mut || {
+        keep(product::from_planes(&mut planes, 64, &mut cells))
     });
     note("session set", &mut || press(set, &Call::Set([1, 2, 3], 4)));
     note("session column", &mut || press(column, &column_call));

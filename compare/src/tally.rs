@@ -30,7 +30,7 @@ pub const FULL: Amount = Amount {
 };
 
 /// The first place at which a list is not as wanted: the place, what is wanted there, what it holds.
-fn first_other<T: Copy + PartialEq>(wanted: &[T], found: &[T]) -> Option<(usize, T, T)> {
+pub fn first_other<T: Copy + PartialEq>(wanted: &[T], found: &[T]) -> Option<(usize, T, T)> {
     let i = wanted.iter().zip(found).position(|(w, f)| w != f)?;
     Some((i, wanted[i], found[i]))
 }

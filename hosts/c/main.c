@@ -1,4 +1,5 @@
-/* An example host: a fresh map, presses, a cut at every byte, and the next tablet takes over. It is C99 and C++11.
+/* An example host: a fresh map, presses, a cut at every byte, and the next tablet takes over; and a shelf copy of
+ * a chunk, written and restored (shelf_copy, shelf_restore). It is C99 and C++11.
  * It exits with 1, and says where, if an answer or a map is not what it must be. */
 #include "perillahinge.h"
 #include <stdio.h>
@@ -531,6 +532,195 @@ static void viewer(void) {
     CHECK(apart > 0);
 }
 
+/* Whether a call that tells no value answers this number. */
+static int says(pl_answer a, uint32_t number) {
+    return a.number == number && a.line == 0 && a.value == 0;
+}
+
+/* The planes of one cell and of eight, worked out by hand: at size 2 the cells stand as they lie. */
+static void planes(void) {
+    static const uint16_t one[1] = {0xabcd};
+    static const uint16_t eight[8] = {0x0901, 0x0a02, 0x0b03, 0x0c04, 0x0d05, 0x0e06, 0x0f07, 0x1008};
+    static const uint8_t wanted[16] = {1, 2, 3, 4, 5, 6, 7, 8, 9, 10, 11, 12, 13, 14, 15, 16};
+    uint8_t bytes[16] = {0};
+    uint16_t cells[8] = {0};
+    CHECK(says(pl_to_planes(one, 1, 1, bytes, 2), PL_OK) && bytes[0] == 0xcd && bytes[1] == 0xab && bytes[2] == 0);
+    CHECK(says(pl_from_planes(bytes, 2, 1, cells, 1), PL_OK) && cells[0] == 0xabcd && cells[1] == 0);
+    CHECK(says(pl_to_planes(eight, 8, 2, bytes, 16), PL_OK) && memcmp(bytes, wanted, sizeof wanted) == 0);
+    CHECK(says(pl_from_planes(wanted, 16, 2, cells, 8), PL_OK) && memcmp(cells, eight, sizeof eight) == 0);
+}
+
+/* The cells of the largest chunk. */
+enum { MOST = PL_SIZE_MOST * PL_SIZE_MOST * PL_SIZE_MOST };
+
+static size_t nonzero_bytes(const uint8_t *bytes, size_t n) {
+    size_t count = 0;
+    for (size_t i = 0; i < n; i++)
+        count += bytes[i] != 0;
+    return count;
+}
+
+/* Where single cells stand, worked out by hand. In octal each digit of a position has one bit of x, y and z, worth 1, 2
+ * and 4: (1, 2, 3) has x 01, y 10 and z 11, so its digits are 0 + 2 + 4 and 1 + 0 + 4. */
+static void positions(void) {
+    static const struct {
+        size_t size, x, y, z, position;
+    } at[] = {
+        {4, 1, 2, 3, 065},       {4, 2, 0, 0, 010},      {8, 4, 1, 2, 0142},
+        {16, 9, 3, 12, 05423},   {32, 16, 0, 0, 010000}, {64, 32, 0, 0, 0100000},
+        {64, 0, 32, 0, 0200000}, {64, 0, 0, 1, 04},      {64, 21, 42, 63, 0656565},
+    };
+    static uint16_t cells[MOST];
+    static uint8_t bytes[2 * MOST];
+    for (size_t k = 0; k < sizeof at / sizeof *at; k++) {
+        const size_t size = at[k].size, n = size * size * size, position = at[k].position;
+        const size_t i = at[k].x + size * (at[k].y + size * at[k].z);
+        memset(cells, 0, sizeof cells);
+        cells[i] = 0x1234;
+        memset(bytes, 0xee, sizeof bytes);
+        CHECK(says(pl_to_planes(cells, n, size, bytes, 2 * n), PL_OK) && nonzero_bytes(bytes, 2 * n) == 2);
+        CHECK(bytes[position] == 0x34 && bytes[n + position] == 0x12);
+        memset(cells, 0xee, sizeof cells);
+        CHECK(says(pl_from_planes(bytes, 2 * n, size, cells, n), PL_OK) && nonzero(cells, n) == 1);
+        CHECK(cells[i] == 0x1234);
+    }
+}
+
+/* Each call undoes the other, at every size, whatever ids and bytes they are. */
+static void both_ways(void) {
+    static uint16_t cells[MOST], cells_again[MOST];
+    static uint8_t bytes[2 * MOST], bytes_again[2 * MOST];
+    for (size_t i = 0; i < MOST; i++)
+        cells[i] = (uint16_t)((40503 * (i + 1)) >> 5);
+    for (size_t i = 0; i < 2 * MOST; i++)
+        bytes[i] = (uint8_t)((40503 * (i + 1)) >> 7);
+    for (size_t size = 1; size <= PL_SIZE_MOST; size *= 2) {
+        const size_t n = size * size * size;
+        CHECK(says(pl_to_planes(cells, n, size, bytes_again, 2 * n), PL_OK));
+        CHECK(says(pl_from_planes(bytes_again, 2 * n, size, cells_again, n), PL_OK));
+        CHECK(memcmp(cells_again, cells, n * sizeof *cells) == 0);
+        CHECK(says(pl_from_planes(bytes, 2 * n, size, cells_again, n), PL_OK));
+        CHECK(says(pl_to_planes(cells_again, n, size, bytes_again, 2 * n), PL_OK));
+        CHECK(memcmp(bytes_again, bytes, 2 * n) == 0);
+    }
+}
+
+/* Planes that are refused: another size, whatever the lengths are, also one whose cube no number holds; then cells of a
+ * wrong length; then bytes. */
+static const struct {
+    size_t size, cells, bytes;
+    uint32_t number;
+} bad_planes[] = {
+    {0, 0, 0, PL_PLANES_SIZE},
+    {3, 27, 54, PL_PLANES_SIZE},
+    {SIZE, CELLS, 2 * CELLS, PL_PLANES_SIZE},
+    {3, 8, 15, PL_PLANES_SIZE},
+    {6, 8, 16, PL_PLANES_SIZE},
+    {128, 8, 16, PL_PLANES_SIZE},
+    {(size_t)1 << 22, 0, 0, PL_PLANES_SIZE},
+    {SIZE_MAX, 8, 16, PL_PLANES_SIZE},
+    {2, 7, 16, PL_LENGTH},
+    {2, 9, 16, PL_LENGTH},
+    {2, 7, 14, PL_LENGTH},
+    {2, 0, 0, PL_LENGTH},
+    {64, 8, 16, PL_LENGTH},
+    {1, 8, 16, PL_LENGTH},
+    {2, 8, 15, PL_PLANES_BYTES},
+    {2, 8, 17, PL_PLANES_BYTES},
+    {2, 8, 8, PL_PLANES_BYTES},
+    {4, 64, 0, PL_PLANES_BYTES},
+};
+
+/* Where planes are refused, neither call writes. */
+static void no_planes(void) {
+    uint16_t cells[CELLS], stale_cells[CELLS];
+    uint8_t bytes[2 * CELLS], stale_bytes[2 * CELLS];
+    memset(stale_cells, 0xee, sizeof stale_cells);
+    memset(stale_bytes, 0x11, sizeof stale_bytes);
+    memcpy(cells, stale_cells, sizeof cells);
+    memcpy(bytes, stale_bytes, sizeof bytes);
+    for (size_t k = 0; k < sizeof bad_planes / sizeof *bad_planes; k++) {
+        const size_t size = bad_planes[k].size, n = bad_planes[k].cells, m = bad_planes[k].bytes;
+        CHECK(says(pl_to_planes(cells, n, size, bytes, m), bad_planes[k].number));
+        CHECK(memcmp(bytes, stale_bytes, sizeof bytes) == 0);
+        CHECK(says(pl_from_planes(bytes, m, size, cells, n), bad_planes[k].number));
+        CHECK(memcmp(cells, stale_cells, sizeof cells) == 0);
+    }
+    CHECK(says(pl_to_planes(NULL, 0, 3, NULL, 0), PL_PLANES_SIZE));
+    CHECK(says(pl_from_planes(NULL, 0, 2, NULL, 0), PL_LENGTH));
+}
+
+/* A shelf copy: the cells of a chunk of 16 in a file, so that they are there without a replay of the journal. */
+enum { SHELF = 16, SHELF_CELLS = SHELF * SHELF * SHELF, SHELF_BYTES = 2 * SHELF_CELLS };
+
+/* Writes a shelf copy: the first line of the chunk's journal, then the planes. The planes do not tell what they are a
+ * copy of; the line has size, settings and place. A real host also stores a checksum, and may compress the planes. A
+ * chunk of a size without planes is refused with 28: a host stores its cells as they are. */
+static int shelf_copy(FILE *file, const uint8_t *line, size_t line_len, const uint16_t *cells) {
+    static uint8_t bytes[SHELF_BYTES];
+    return pl_to_planes(cells, SHELF_CELLS, SHELF, bytes, SHELF_BYTES).number == PL_OK &&
+           fwrite(line, 1, line_len, file) == line_len && fwrite(bytes, 1, SHELF_BYTES, file) == SHELF_BYTES &&
+           fflush(file) == 0;
+}
+
+/* Restores a shelf copy: its line gives size, settings and place, in a record, and the bare ground; its planes give the
+ * cells. To go on building, a session needs its whole journal, not this record. A line of another form or size is
+ * refused, and so are planes too short or too long. But any bytes of the right number are some chunk's planes: that
+ * they are those that were written no call can tell, and a real host holds them to its checksum first. */
+static int shelf_restore(FILE *file, pl_session *record, uint16_t *ground, uint16_t *cells) {
+    static uint8_t bytes[SHELF_BYTES + 1];
+    char line[PL_HEADER_MOST + 1];
+    if (!fgets(line, sizeof line, file))
+        return 0;
+    const size_t n = strlen(line), got = fread(bytes, 1, sizeof bytes, file);
+    const pl_start start = pl_session_reopen(ground, SHELF_CELLS, (const uint8_t *)line, n, n);
+    *record = start.session;
+    return start.number == PL_OK && pl_from_planes(bytes, got, SHELF, cells, SHELF_CELLS).number == PL_OK;
+}
+
+/* Zeros behind a first line: one too few and one too many are no shelf copy, and leave the cells. The right number is
+ * one, of a chunk of air, though nobody wrote it. */
+static void shelf_of_zeros(void) {
+    static const char line[] = "G\t7\t24\t64\t16\t0\t1\t0\n";
+    static const uint8_t zeros[SHELF_BYTES + 1] = {0};
+    static uint16_t ground[SHELF_CELLS], cells[SHELF_CELLS];
+    for (size_t n = SHELF_BYTES - 1; n <= SHELF_BYTES + 1; n++) {
+        const uint16_t wanted = n == SHELF_BYTES ? 0 : 0xeeee;
+        pl_session record;
+        FILE *file = tmpfile();
+        CHECK(file && fputs(line, file) >= 0 && fwrite(zeros, 1, n, file) == n);
+        rewind(file);
+        memset(cells, 0xee, sizeof cells);
+        CHECK(shelf_restore(file, &record, ground, cells) == (n == SHELF_BYTES));
+        for (size_t i = 0; i < SHELF_CELLS; i++)
+            CHECK(cells[i] == wanted);
+        CHECK(fclose(file) == 0);
+    }
+}
+
+/* A chunk that was built in goes onto the shelf and comes back. */
+static void shelf(void) {
+    static uint16_t cells[SHELF_CELLS], ground[SHELF_CELLS], restored[SHELF_CELLS];
+    static uint8_t journal[JOURNAL];
+    const pl_config config = {7, 24, 64, SHELF};
+    const pl_pos pos = {0, 1, 0};
+    const pl_start start = pl_session_fresh(config, pos, cells, SHELF_CELLS, journal, JOURNAL);
+    CHECK(start.number == PL_OK);
+    pl_session s = start.session, record;
+    CHECK(tells(pl_session_fill_column(&s, cells, SHELF_CELLS, journal, JOURNAL, 3, 5, SHELF, 300), 0, 0, SHELF));
+    CHECK(pl_session_set(&s, cells, SHELF_CELLS, journal, JOURNAL, 15, 0, 15, 65535).altered == 1);
+
+    FILE *file = tmpfile();
+    CHECK(file && shelf_copy(file, journal, start.session.used, cells));
+    rewind(file);
+    memset(restored, 0xee, sizeof restored);
+    CHECK(shelf_restore(file, &record, ground, restored));
+    CHECK(same_session(&record, &start.session) && memcmp(restored, cells, sizeof cells) == 0);
+    /* The column's 16 cells and the one that was set. */
+    CHECK(differing(ground, restored, SHELF_CELLS) == 17);
+    CHECK(fclose(file) == 0);
+}
+
 int main(void) {
     static tablet maps[PRESSES + 1]; /* the map after each line */
     static storage file;
@@ -574,6 +764,12 @@ int main(void) {
     tallies();
     seeds();
     viewer();
+    planes();
+    positions();
+    both_ways();
+    no_planes();
+    shelf_of_zeros();
+    shelf();
     printf("host in %s: %zu bytes, a cut at each, the map is there\n",
 #ifdef __cplusplus
            "C++",

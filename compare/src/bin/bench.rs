@@ -3,30 +3,34 @@
 //!   bench markdown LIBRARY   only ratios, of instructions too, and the stack: the tables of docs/SPEED.md
 //!   bench instructions       how many instructions each side takes, counted by valgrind
 //!   bench count N SIDE       runs one side of a workload once, for valgrind
+//! A session and a chunk's planes have no original: other sides stand in its place.
 use compare::ground::{height_at, Laid, Site};
 use compare::model::{Call, Lent, JOURNAL};
 use compare::native::{self, Native};
+use compare::plain_planes::Buffers;
 use compare::product::{self, Product};
 use compare::report::Report;
 use compare::rng::Rng;
 use compare::session::Calls;
-use compare::{stack, system};
+use compare::{plain_planes, stack, system};
 use original::plain;
 use std::cell::RefCell;
 use std::hint::black_box;
 use std::process::{Command, ExitCode};
+use std::rc::Rc;
 
 /// How often each side of a workload is timed; the median counts.
 const ROUNDS: usize = 9;
 
 /// A workload: a name, and one run for each side, which makes a call so many times. Each answers a
-/// number that is kept, so that no compiler drops the work.
+/// number that is kept, so that no compiler drops the work. The third side is the original built for this processor; of
+/// planes, a straight copy.
 struct Workload<'a> {
     name: String,
     times: usize,
     product: Box<dyn Fn() -> f64 + 'a>,
     baseline: Box<dyn Fn() -> f64 + 'a>,
-    native: Option<Box<dyn Fn() -> f64 + 'a>>,
+    third: Option<Box<dyn Fn() -> f64 + 'a>>,
 }
 
 /// The processor time of a run in microseconds.
@@ -45,23 +49,23 @@ fn median(mut times: Vec<f64>) -> f64 {
 struct Taken {
     product: f64,
     baseline: f64,
-    native: Option<f64>,
+    third: Option<f64>,
 }
 
 /// Times the sides in turns.
 fn measure(w: &Workload) -> Taken {
-    let (mut ours, mut base, mut near) = (vec![], vec![], vec![]);
+    let (mut ours, mut base, mut third) = (vec![], vec![], vec![]);
     for _ in 0..ROUNDS {
         ours.push(timed(&w.product));
         base.push(timed(&w.baseline));
-        if let Some(run) = &w.native {
-            near.push(timed(run));
+        if let Some(run) = &w.third {
+            third.push(timed(run));
         }
     }
     Taken {
         product: median(ours),
         baseline: median(base),
-        native: (!near.is_empty()).then(|| median(near)),
+        third: (!third.is_empty()).then(|| median(third)),
     }
 }
 
@@ -92,7 +96,7 @@ fn hashes<'a>(at: &'a [(i32, i32, i32)], near: Option<&'a Native>) -> Vec<Worklo
             times: at.len(),
             product: Box::new(|| gather(at, |(x, y, _)| product::hash2(x, y))),
             baseline: Box::new(|| gather(at, |(x, y, _)| plain::hash2(x, y))),
-            native: near
+            third: near
                 .map(|n| Box::new(move || gather(at, |(x, y, _)| (n.hash2)(x, y))) as Box<dyn Fn() -> f64>),
         },
         Workload {
@@ -100,7 +104,7 @@ fn hashes<'a>(at: &'a [(i32, i32, i32)], near: Option<&'a Native>) -> Vec<Worklo
             times: at.len(),
             product: Box::new(|| gather(at, |(x, y, z)| product::hash3(x, y, z))),
             baseline: Box::new(|| gather(at, |(x, y, z)| plain::hash3(x, y, z))),
-            native: near.map(|n| {
+            third: near.map(|n| {
                 Box::new(move || gather(at, |(x, y, z)| (n.hash3)(x, y, z))) as Box<dyn Fn() -> f64>
             }),
         },
@@ -114,7 +118,7 @@ fn noises<'a>(at: &'a [(f32, f32, f32)], near: Option<&'a Native>) -> Vec<Worklo
             times: at.len(),
             product: Box::new(|| gather(at, |(x, y, _)| product::noise2d(x, y))),
             baseline: Box::new(|| gather(at, |(x, y, _)| plain::noise2d(x, y))),
-            native: near
+            third: near
                 .map(|n| Box::new(move || gather(at, |(x, y, _)| (n.noise2d)(x, y))) as Box<dyn Fn() -> f64>),
         },
         Workload {
@@ -122,7 +126,7 @@ fn noises<'a>(at: &'a [(f32, f32, f32)], near: Option<&'a Native>) -> Vec<Worklo
             times: at.len(),
             product: Box::new(|| gather(at, |(x, y, z)| product::noise3d(x, y, z))),
             baseline: Box::new(|| gather(at, |(x, y, z)| plain::noise3d(x, y, z))),
-            native: near.map(|n| {
+            third: near.map(|n| {
                 Box::new(move || gather(at, |(x, y, z)| (n.noise3d)(x, y, z))) as Box<dyn Fn() -> f64>
             }),
         },
@@ -131,7 +135,7 @@ fn noises<'a>(at: &'a [(f32, f32, f32)], near: Option<&'a Native>) -> Vec<Worklo
             times: at.len(),
             product: Box::new(|| gather(at, |(x, y, _)| product::fbm2d(x, y, 4))),
             baseline: Box::new(|| gather(at, |(x, y, _)| plain::fbm2d(x, y, 4))),
-            native: near.map(|n| {
+            third: near.map(|n| {
                 Box::new(move || gather(at, |(x, y, _)| (n.fbm2d)(x, y, 4))) as Box<dyn Fn() -> f64>
             }),
         },
@@ -140,7 +144,7 @@ fn noises<'a>(at: &'a [(f32, f32, f32)], near: Option<&'a Native>) -> Vec<Worklo
             times: at.len(),
             product: Box::new(|| gather(at, |(x, y, z)| product::fbm3d(x, y, z, 3))),
             baseline: Box::new(|| gather(at, |(x, y, z)| plain::fbm3d(x, y, z, 3))),
-            native: near.map(|n| {
+            third: near.map(|n| {
                 Box::new(move || gather(at, |(x, y, z)| (n.fbm3d)(x, y, z, 3))) as Box<dyn Fn() -> f64>
             }),
         },
@@ -173,7 +177,7 @@ fn ground<'a>(name: &str, s: Site, times: usize, near: Option<&'a Native>) -> Wo
             })
         }),
         baseline: Box::new(move || repeat(&|| rust(plain::generate))),
-        native: near.map(|n| Box::new(move || repeat(&|| rust(n.generate))) as Box<dyn Fn() -> f64>),
+        third: near.map(|n| Box::new(move || repeat(&|| rust(n.generate))) as Box<dyn Fn() -> f64>),
     }
 }
 
@@ -273,7 +277,7 @@ fn presses<'a>() -> Vec<Workload<'a>> {
         times,
         product: Box::new(move || (0..times).map(&press).sum()),
         baseline: Box::new(move || one_generation(site)),
-        native: None,
+        third: None,
     };
     let [set, column, batch] = edits(&start);
     // Pressed again, a set or a batch finds its cells there, and alters nothing.
@@ -338,13 +342,95 @@ fn one_generation(site: Site) -> f64 {
     }
 }
 
+/// One side of a row of planes.
+type Side = fn(&mut [u16], usize, &mut [u8]);
+
+/// The product, plain Rust with a loop over the bits, and a straight copy from the cells to the bytes.
+const TO: [Side; 3] = [
+    |cells, size, bytes| assert_eq!(product::to_planes(cells, size, bytes).number, 0),
+    |cells, size, bytes| plain_planes::to_planes(cells, size, bytes),
+    |cells, _, bytes| plain_planes::copy_to(cells, bytes),
+];
+
+/// The same the other way.
+const FROM: [Side; 3] = [
+    |cells, size, bytes| assert_eq!(product::from_planes(bytes, size, cells).number, 0),
+    |cells, size, bytes| plain_planes::from_planes(bytes, size, cells),
+    |cells, _, bytes| plain_planes::copy_from(bytes, cells),
+];
+
+/// How many calls a round has at sizes 16, 32 and 64: the copy takes a millisecond or more. Instructions are counted of
+/// one call.
+const CALLS: [usize; 3] = [15_000, 1000, 120];
+const ONE: [usize; 3] = [1; 3];
+
+/// A row of planes. Its three sides have the same buffers, which are in the cache as far as they fit.
+fn planes_row<'a>(name: &str, size: usize, times: usize, sides: [Side; 3]) -> Workload<'a> {
+    let start = Buffers::new(size);
+    let [ours, plain] = [sides[0], sides[1]].map(|side| {
+        let mut buffers = start.clone();
+        let (cells, bytes) = buffers.lent();
+        side(cells, size, bytes);
+        buffers
+    });
+    assert!(ours == plain && ours != start, "the same planes by both");
+    let shared = Rc::new(RefCell::new(start));
+    let [product, baseline, copy] = sides.map(|side| {
+        let shared = Rc::clone(&shared);
+        Box::new(move || {
+            let mut buffers = shared.borrow_mut();
+            let (cells, bytes) = buffers.lent();
+            (0..times).for_each(|_| side(black_box(cells), size, black_box(bytes)));
+            f64::from(cells[0]) + f64::from(bytes[0])
+        }) as Box<dyn Fn() -> f64>
+    });
+    Workload {
+        name: format!("{name}, size {size}"),
+        times,
+        product,
+        baseline,
+        third: Some(copy),
+    }
+}
+
+/// How many rows of planes there are.
+const ROWS_OF_PLANES: usize = 6;
+
+/// Both calls on planes at three sizes.
+fn planes<'a>(times: [usize; 3]) -> Vec<Workload<'a>> {
+    let sizes = [16, 32, 64].into_iter().zip(times);
+    sizes
+        .flat_map(|(size, times)| {
+            [("to_planes", TO), ("from_planes", FROM)]
+                .map(|(name, sides)| planes_row(name, size, times, sides))
+        })
+        .collect()
+}
+
 /// The work whose instructions are counted: valgrind collects inside this function alone.
 #[inline(never)]
 fn counted_work(run: &dyn Fn() -> f64) -> f64 {
     black_box(run())
 }
 
-/// The instructions that a run of a workload's side takes; its number is that in the list of both kinds.
+/// The row of this number: first come those of both sides, then planes, then sessions. Rows of another kind are not made:
+/// what they were lent and gave back would alter how later buffers are lent.
+fn row<'a, 'b>(all: &'a mut Vec<Workload<'b>>, number: usize) -> Option<&'a Workload<'b>> {
+    let place = match number.checked_sub(all.len()) {
+        None => number,
+        Some(k) if k < ROWS_OF_PLANES => {
+            all.extend(planes(ONE));
+            number
+        }
+        Some(_) => {
+            all.extend(presses());
+            number - ROWS_OF_PLANES
+        }
+    };
+    all.get(place)
+}
+
+/// The instructions that a run of a workload's side takes; its number is that of `row`.
 fn instructions(number: usize, side: &str) -> Option<f64> {
     let output = Command::new("valgrind")
         .args(["--tool=callgrind", "--callgrind-out-file=/dev/null"])
@@ -358,12 +444,13 @@ fn instructions(number: usize, side: &str) -> Option<f64> {
     count.split_whitespace().next()?.parse().ok()
 }
 
-/// The instructions of both sides.
+/// The instructions of the first two sides. The third is built for this processor, or the C library's copy: valgrind may
+/// run another one.
 fn counted(number: usize) -> Option<Taken> {
     Some(Taken {
         product: instructions(number, "product")?,
         baseline: instructions(number, "baseline")?,
-        native: None,
+        third: None,
     })
 }
 
@@ -372,15 +459,39 @@ const SESSIONS: &str =
 M and R lines these are 256 edits, 16 names, and lines of the last name in turns. The other side is one
 generation of that chunk by the product itself.";
 
+const PLANES: &str =
+    "Planes. Rust: plain Rust with a loop over the bits of each cell, for the x86-64 baseline; copy: a straight
+copy of as many bytes between the same buffers.";
+
 /// A line of a table for the screen.
 fn line(w: &Workload, t: &Taken) -> String {
-    let native = t.native.map_or("-".to_string(), |native| {
-        format!("{native:11.1} {:8.2}", native / t.product)
+    let third = t.third.map_or("-".to_string(), |third| {
+        format!("{third:11.1} {:8.2}", third / t.product)
     });
     let name = format!("{}, x{}", w.name, w.times);
     let (product, baseline) = (t.product, t.baseline);
     let (up, down) = (product / baseline, baseline / product);
-    format!("{name:36} {product:13.1} {baseline:13.1} {up:8.2} {down:8.2} {native}")
+    format!("{name:36} {product:13.1} {baseline:13.1} {up:8.2} {down:8.2} {third}")
+}
+
+/// A line of the table of planes for the screen.
+fn planes_line(w: &Workload, t: &Taken) -> String {
+    let name = format!("{}, x{}", w.name, w.times);
+    let (product, plain, copy) = (t.product, t.baseline, t.third.unwrap_or(f64::NAN));
+    let (copies, down) = (product / copy, plain / product);
+    format!("{name:36} {product:13.1} {plain:13.1} {copy:13.1} {copies:9.2} {down:8.2}")
+}
+
+/// Prints the times of planes.
+fn planes_table() {
+    println!("{PLANES}");
+    println!(
+        "{:36} {:>13} {:>13} {:>13} {:>9} {:>8}",
+        "call", "product", "Rust", "copy", "prod/copy", "R/prod"
+    );
+    planes(CALLS)
+        .iter()
+        .for_each(|w| println!("{}", planes_line(w, &measure(w))));
 }
 
 /// Prints the times of all workloads.
@@ -398,6 +509,7 @@ fn table(all: &[Workload]) {
     presses()
         .iter()
         .for_each(|w| println!("{}", line(w, &measure(w))));
+    planes_table();
 }
 
 /// Prints the instructions of all workloads.
@@ -411,7 +523,11 @@ fn instruction_table(all: &[Workload]) -> Option<()> {
         println!("{}", line(w, &counted(number)?));
     }
     println!("{SESSIONS}");
-    for (number, w) in (all.len()..).zip(&presses()) {
+    for (number, w) in (all.len() + ROWS_OF_PLANES..).zip(&presses()) {
+        println!("{}", line(w, &counted(number)?));
+    }
+    println!("{PLANES}");
+    for (number, w) in (all.len()..).zip(&planes(ONE)) {
         println!("{}", line(w, &counted(number)?));
     }
     Some(())
@@ -425,28 +541,23 @@ fn three(ratio: f64) -> String {
     format!("{:.decimals$}", (ratio * unit).round() / unit)
 }
 
-/// Prints the tables of docs/SPEED.md: no time, only ratios of what was measured in this run. All times are taken
-/// before valgrind first runs.
-fn markdown(all: &[Workload]) -> Option<()> {
-    let presses = presses();
-    let times: Vec<Taken> = all.iter().chain(&presses).map(measure).collect();
-    println!("| workload | Rust / product | native Rust / product | instructions, Rust / product |");
-    println!("|---|---|---|---|");
-    for (number, w) in all.iter().enumerate() {
-        let (t, count) = (&times[number], counted(number)?);
-        let baseline = three(t.baseline / t.product);
-        let native = t.native.map_or("-".into(), |native| three(native / t.product));
-        let fewer = three(count.baseline / count.product);
-        println!("| {} | {baseline} | {native} | {fewer} |", w.name);
-    }
+/// Prints the table of planes, of which the first has this number.
+fn planes_markdown(first: usize, rows: &[Workload], times: &[Taken]) -> Option<()> {
     println!();
-    println!("| call of a session | calls in the time of one generation | in the instructions of one |");
-    println!("|---|---|---|");
-    for (number, w) in (all.len()..).zip(&presses) {
-        let (t, count) = (&times[number], counted(number)?);
-        let [time, fewer] = [t, &count].map(|t| three(w.times as f64 * t.baseline / t.product));
-        println!("| {} | {time} | {fewer} |", w.name);
+    println!(
+        "| planes | product / straight copy | plain Rust / product | instructions, plain Rust / product |"
+    );
+    println!("|---|---|---|---|");
+    for ((number, w), t) in (first..).zip(rows).zip(times) {
+        let (copies, count) = (three(t.product / t.third?), counted(number)?);
+        let [time, fewer] = [t, &count].map(|t| three(t.baseline / t.product));
+        println!("| {} | {copies} | {time} | {fewer} |", w.name);
     }
+    Some(())
+}
+
+/// Prints the table of what the calls take of the stack.
+fn stack_markdown() {
     println!();
     println!("| call at size 64 | bytes of stack |");
     println!("|---|---|");
@@ -456,6 +567,34 @@ fn markdown(all: &[Workload]) -> Option<()> {
         }
     }
     println!("| every other call that is measured | at most {} |", system::NEAR);
+}
+
+/// Prints the tables of docs/SPEED.md: no time, only ratios of what was measured in this run. All times are taken
+/// before valgrind first runs.
+fn markdown(all: &[Workload]) -> Option<()> {
+    let presses = presses();
+    let times: Vec<Taken> = all.iter().chain(&presses).map(measure).collect();
+    let planes = planes(CALLS);
+    let times_of_planes: Vec<Taken> = planes.iter().map(measure).collect();
+    println!("| workload | Rust / product | native Rust / product | instructions, Rust / product |");
+    println!("|---|---|---|---|");
+    for (number, w) in all.iter().enumerate() {
+        let (t, count) = (&times[number], counted(number)?);
+        let baseline = three(t.baseline / t.product);
+        let native = t.third.map_or("-".into(), |native| three(native / t.product));
+        let fewer = three(count.baseline / count.product);
+        println!("| {} | {baseline} | {native} | {fewer} |", w.name);
+    }
+    println!();
+    println!("| call of a session | calls in the time of one generation | in the instructions of one |");
+    println!("|---|---|---|");
+    for (k, w) in presses.iter().enumerate() {
+        let (t, count) = (&times[all.len() + k], counted(all.len() + planes.len() + k)?);
+        let [time, fewer] = [t, &count].map(|t| three(w.times as f64 * t.baseline / t.product));
+        println!("| {} | {time} | {fewer} |", w.name);
+    }
+    planes_markdown(all.len(), &planes, &times_of_planes)?;
+    stack_markdown();
     Some(())
 }
 
@@ -475,11 +614,8 @@ fn main() -> ExitCode {
         }
         ["markdown", _] => markdown(&all),
         ["instructions"] => instruction_table(&all),
-        ["count", number, side] => number.parse().ok().and_then(|number: usize| {
-            if number >= all.len() {
-                all.extend(presses());
-            }
-            let w = all.get(number)?;
+        ["count", number, side] => number.parse().ok().and_then(|number| {
+            let w = row(&mut all, number)?;
             black_box(counted_work(if side == "product" {
                 &w.product
             } else {

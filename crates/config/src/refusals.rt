@@ -63,5 +63,11 @@ pub const UNKNOWN_NAME: u32 = 26;
 // The name would be a seventeenth.
 pub const MANY_NAMES: u32 = 27;
 
+// No planes are made of a chunk of this size: it is not 1, 2, 4, 8, 16, 32 or 64.
+pub const PLANES_SIZE: u32 = 28;
+
+// The planes' bytes are not twice as many as the cells.
+pub const PLANES_BYTES: u32 = 29;
+
 // The number names no face: of the C interface alone.
 pub const FACE: u32 = 99;

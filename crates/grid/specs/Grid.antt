@@ -1,5 +1,5 @@
 -- The laws of a chunk's indices (SCOPE 5.1), and of lists that are filled from the front. Assumes nothing.
-use mathlib.Core.Path.{_≡_, refl, sym, ap, _∙_, subst}
+use mathlib.Core.Path.{_≡_, refl, sym, ap, ap₂, _∙_, subst}
 use Prim.Native.Nat.{ℕ, zero, suc, _+_, _*_, _/_, _%_, _≤_, _<_}
 use native.Mathlib.Omega.{arith}
 use native.Mathlib.Nat.{add-mul, mul-le-mul, div-lt-iff-lt-mul, mod-lt}
@@ -63,6 +63,12 @@ tab-at (suc n) f i h = at (λ k. tab-at n f i k) (ltb i n) refl
     at q false e =
         let k : i ≡ n = (let g = borrow.Author.Tests.ltb-false i n e in omega arith) in
         getD-at (tab n f) (f n) [] 0 i (tab-length n f ∙ sym k) ∙ ap f (sym k)
+
+-- functions that agree below n
+pub tab-same : (n : ℕ) (f g : ℕ → ℕ) → ((i : ℕ) → i < n → f i ≡ g i) → tab n f ≡ tab n g
+unfolding tab
+tab-same zero f g h = refl
+tab-same (suc n) f g h = ap₂ (λ (a : List ℕ) (v : ℕ). a ++ (v ∷ [])) (tab-same n f g (λ i l. h i (omega arith))) (h n (omega arith))
 
 pub all-long : (n id : ℕ) → length (allOf n id) ≡ n
 unfolding allOf
@@ -176,6 +182,20 @@ pub steps-length : (n : ℕ) (f : ℕ → List ℕ → List ℕ) (c : List ℕ) 
 unfolding steps
 steps-length zero f c h = refl
 steps-length (suc n) f c h = h n (steps n f c) ∙ steps-length n f c h
+
+-- steps that do the same
+pub steps-same : (n : ℕ) (f g : ℕ → List ℕ → List ℕ) (c : List ℕ) → ((k : ℕ) (d : List ℕ) → k < n → f k d ≡ g k d) → steps n f c ≡ steps n g c
+unfolding steps
+steps-same zero f g c h = refl
+steps-same (suc n) f g c h = h n (steps n f c) (omega arith) ∙ ap (g n) (steps-same n f g c (λ k d l. h k d (omega arith)))
+
+-- the first a steps, then n more
+pub steps-split : (a n : ℕ) (f : ℕ → List ℕ → List ℕ) (c : List ℕ) → steps (a + n) f c ≡ steps n (λ (j : ℕ). f (a + j)) (steps a f c)
+unfolding steps
+steps-split a zero f c = ap (λ (k : ℕ). steps k f c) (let e : a + 0 ≡ a = omega arith in e)
+steps-split a (suc n) f c =
+    ap (λ (k : ℕ). steps k f c) (let e : a + suc n ≡ suc (a + n) = omega arith in e)
+    ∙ ap (f (a + n)) (steps-split a n f c)
 
 -- the column of a cell
 pub col-lt : (s i : ℕ) → i < s * s * s → colOf s i < s * s

@@ -9,6 +9,7 @@ use lib.Dec.{ltb, leb, eqb}
 use borrow.Author.Tests.{ltb-true, ltb-false, leb-true, le-leb, lt-ltb, le-ltb, eqb-true, eqb-false}
 use Rattle.basics.specs.Bools.{by-bool, and-both}
 use Rattle.grid.specs.Cube.{steps}
+use Rattle.grid.specs.Grid.{steps-same, steps-split}
 
 -- z is one of lo ≤ z < hi
 unfoldable pub inRows : ℕ → ℕ → ℕ → Bool
@@ -42,24 +43,11 @@ row-one k z = by-bool (eqb z k)
 
 -- ---- steps
 
--- steps that do the same
-pub steps-same : (n : ℕ) (f g : ℕ → List ℕ → List ℕ) (c : List ℕ) → ((k : ℕ) (d : List ℕ) → k < n → f k d ≡ g k d) → steps n f c ≡ steps n g c
-unfolding steps
-steps-same zero f g c h = refl
-steps-same (suc n) f g c h = h n (steps n f c) (omega arith) ∙ ap (g n) (steps-same n f g c (λ k d l. h k d (omega arith)))
-
 -- steps that each change nothing
 pub steps-idle : (n : ℕ) (f : ℕ → List ℕ → List ℕ) (c : List ℕ) → ((k : ℕ) (d : List ℕ) → k < n → f k d ≡ d) → steps n f c ≡ c
 unfolding steps
 steps-idle zero f c h = refl
 steps-idle (suc n) f c h = h n (steps n f c) (omega arith) ∙ steps-idle n f c (λ k d l. h k d (omega arith))
-
-steps-split : (a n : ℕ) (f : ℕ → List ℕ → List ℕ) (c : List ℕ) → steps (a + n) f c ≡ steps n (λ (j : ℕ). f (a + j)) (steps a f c)
-unfolding steps
-steps-split a zero f c = ap (λ (k : ℕ). steps k f c) (let e : a + 0 ≡ a = omega arith in e)
-steps-split a (suc n) f c =
-    ap (λ (k : ℕ). steps k f c) (let e : a + suc n ≡ suc (a + n) = omega arith in e)
-    ∙ ap (f (a + n)) (steps-split a n f c)
 
 -- of the first m steps only those from a on below a + n do something
 pub steps-range : (m a n : ℕ) (f : ℕ → List ℕ → List ℕ) (c : List ℕ) → a + n ≤ m

@@ -8,7 +8,7 @@ use lib.Dec.{ltb}
 use borrow.Author.Tests.{ltb-true}
 use Rattle.basics.specs.Bools.{pick, by-bool}
 use Rattle.grid.specs.Cube.{steps}
-use Rattle.grid.specs.Grid.{below-2}
+use Rattle.grid.specs.Grid.{below-2, steps-same}
 use Rattle.ground_cell.specs.World.{Tall, Near}
 use Rattle.ground_cell.specs.Base.{baseNumbered, baseCells}
 use Rattle.ground_lines.specs.Lines.{LaidLines}
@@ -21,7 +21,7 @@ use Rattle.ground_slabs.specs.Stands.{trees-stand}
 use Rattle.ground_slabs.specs.Far.{reach, Away, before, behind, tree-far}
 use Rattle.grid_slabs.specs.Filled.{filled-clip}
 use Rattle.grid_slabs.specs.Clip.{Clip}
-use Rattle.grid_slabs.specs.Rows.{overRows, rows-only, row-in, steps-same, rows-off}
+use Rattle.grid_slabs.specs.Rows.{overRows, rows-only, row-in, rows-off}
 use Rattle.ground_trees.specs.Slabs.{treeStepIn}
 
 -- ---- the base

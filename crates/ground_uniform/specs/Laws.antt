@@ -1,16 +1,15 @@
 -- The ground of a chunk that lies wholly below (SCOPE 4.9), or wholly above (4.7): one block in every cell. Assumes nothing.
-use mathlib.Core.Path.{_≡_, refl, sym, ap, ap₂, _∙_, subst}
+use mathlib.Core.Path.{_≡_, refl, sym, ap, _∙_, subst}
 use Prim.Native.Nat.{ℕ, zero, suc, _+_, _-_, _*_, _/_, _%_, _≤_, _<_}
 use native.Mathlib.Omega.{arith}
 use native.Mathlib.Nat.{mod-lt}
 use mathlib.Core.Bool.{Bool, true, false, cond, false≢true}
-use mathlib.Core.List.{List, _∷_, [], _++_}
 use lib.Dec.{ltb}
 use lib.IntN.{ℤ, pos, negsuc, _+ℤ_}
 use lib.Signed.{ltZ, leZ}
 use borrow.Author.Tests.{leb-true, ltb-true, lt-ltb, le-ltb}
 use Rattle.basics.specs.Bools.{and-both}
-use Rattle.grid.specs.Cube.{tab}
+use Rattle.grid.specs.Grid.{tab-same}
 use Rattle.column.specs.declared.Biome.{Biome}
 use Rattle.column.specs.declared.Biome.the-variants.{Desert, Mountain, Forest, Plains}
 use Rattle.ground_cell.specs.Blocks.{desertBlock, mountainBlock, forestBlock, plainsBlock, selectBlock}
@@ -22,11 +21,6 @@ use Rattle.ground_cell.specs.declared.world.Frame.{Frame}
 use Rattle.ground_trees.specs.Features.{bouldersOf, treesOf, topOf}
 use Rattle.ground_uniform.specs.Place.{deepEnd, boulderReach, deepIn, skyIn, allOf}
 use Rattle.ground_uniform.specs.Untouched.{boulders-out, trees-out}
-
-tab-same : (n : ℕ) (f g : ℕ → ℕ) → ((i : ℕ) → i < n → f i ≡ g i) → tab n f ≡ tab n g
-unfolding tab
-tab-same zero f g h = refl
-tab-same (suc n) f g h = ap₂ (λ (a : List ℕ) (v : ℕ). a ++ (v ∷ [])) (tab-same n f g (λ i l. h i (omega arith))) (h n (omega arith))
 
 -- a base that is one block at every level
 base-same : (w : World) (o : Frame) (v : ℕ) → 1 ≤ o .size → ((wx wz : ℤ) (y : ℕ) → y < o .size → baseCell w wx (o .oy +ℤ pos y) wz ≡ v)

@@ -10,9 +10,11 @@ ghost use Rattle.chunk_look.specs.Calls.{chunkGetDoes, chunkIsAirDoes, chunkIsE
 ghost use Rattle.chunk_edit.specs.Calls.{chunkReplaceDoes, chunkSetDoes, chunkFillDoes};
 ghost use Rattle.chunk_batch.specs.Calls.{chunkBatchDoes};
 ghost use Rattle.chunk_tally.specs.Tally.{chunkTallyDoes};
+ghost use Rattle.planes.specs.Planes.{toPlanesDoes, fromPlanesDoes};
 ghost use Rattle.session_calls.specs.Calls.{sessionFreshDoes, sessionReopenDoes};
 ghost use Rattle.journal_prefix.specs.Prefix.{committedPart};
 ghost use Rattle.host_answers.specs.Answers.{answerOf, answered, editInC, batchAnswered, batchInC, borderAnswered, borderInCDoes, tallyAnswered, tallyInC};
+ghost use Rattle.host_answers.specs.Answers.{planesAnswered, planesInC};
 ghost use Rattle.host_starts.specs.Sessions.{begunInC, freshInC, resumedInC, reopenInC};
 
 mod by_reference;
@@ -182,6 +184,20 @@ pub extern "C" fn pl_tally(
         ≡ tallyInC (chunkTallyDoes size (now (cells .entry)) (now (ids .entry)) (now (counts .entry))) ⌝ }
 {
     host_answers::tally_answer(chunk_tally::tally(cells, size, ids, counts))
+}
+
+#[no_mangle]
+pub extern "C" fn pl_to_planes(cells: &[u16], size: usize, bytes: &mut [u8]) -> Answer
+    ensures { λ r. ⌜ planesAnswered r (now (bytes .exit)) ≡ planesInC (toPlanesDoes size (now (cells .entry)) (now (bytes .entry))) ⌝ }
+{
+    host_answers::planes_answer(planes_write::to_planes(cells, size, bytes))
+}
+
+#[no_mangle]
+pub extern "C" fn pl_from_planes(bytes: &[u8], size: usize, cells: &mut [u16]) -> Answer
+    ensures { λ r. ⌜ answered r (now (cells .exit)) ≡ editInC (fromPlanesDoes size (now (bytes .entry)) (now (cells .entry))) ⌝ }
+{
+    host_answers::planes_answer(planes_read::from_planes(bytes, size, cells))
 }
 
 #[no_mangle]

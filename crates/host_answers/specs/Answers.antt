@@ -9,6 +9,7 @@ use Rattle.chunk_border.specs.declared.Face.{Face}
 use Rattle.chunk_border.specs.declared.Face.the-variants.{PosX, NegX, PosY, NegY, PosZ, NegZ}
 use Rattle.chunk_border.specs.Border.{chunkBorderDoes, bordered, Bordered}
 use Rattle.chunk_tally.specs.Tally.{TallyOutcome, tallyOutcome}
+use Rattle.planes.specs.Planes.{PlanesOutcome, planesOutcome}
 use Rattle.host_answers.specs.declared.Answer.{Answer as AnswerInC}
 use Rattle.host_answers.specs.declared.BatchAnswer.{BatchAnswer as BatchAnswerInC}
 
@@ -110,6 +111,19 @@ tallyAnswered a ids counts = record { answer = a; ids = ids; counts = counts }
 abbrev pub tallyInC : TallyOutcome → TallyAnswered
 tallyInC o = tallyAnswered (answerOf (o .answer)) (o .ids) (o .counts)
 
+-- ---- planes
+
+pub record PlanesAnswered : Type 0 where
+  pub answer : AnswerInC
+  pub bytes : List ℕ
+
+abbrev pub planesAnswered : AnswerInC → List ℕ → PlanesAnswered
+planesAnswered a b = record { answer = a; bytes = b }
+
+-- SCOPE 5.12: cells copied into bytes, as C sees it
+abbrev pub planesInC : PlanesOutcome → PlanesAnswered
+planesInC o = planesAnswered (answerOf (o .answer)) (o .bytes)
+
 -- ---- laws: an answer in C, of what the library's call answered
 
 pub edit-in-c : (r : AnswerInC) (a : Answer) (c : List ℕ) (o : CellsOutcome) → r ≡ answerOf a → cellsOutcome a c ≡ o → answered r c ≡ editInC o
@@ -126,6 +140,9 @@ border-in-c n size face c b b′ r a g e f = rw g (ap (λ (u : AnswerInC). borde
 pub tally-in-c : (r : AnswerInC) (a : Answer) (ids counts : List ℕ) (o : TallyOutcome)
     → r ≡ answerOf a → tallyOutcome a ids counts ≡ o → tallyAnswered r ids counts ≡ tallyInC o
 tally-in-c r a ids counts o e f = ap (λ (u : AnswerInC). tallyAnswered u ids counts) e ∙ ap tallyInC f
+
+pub planes-in-c : (r : AnswerInC) (a : Answer) (b : List ℕ) (o : PlanesOutcome) → r ≡ answerOf a → planesOutcome a b ≡ o → planesAnswered r b ≡ planesInC o
+planes-in-c r a b o e f = ap (λ (u : AnswerInC). planesAnswered u b) e ∙ ap planesInC f
 
 -- only 0 to 5 name a face
 no-face : (n : ℕ) → 5 < n → faceOf n ≡ none

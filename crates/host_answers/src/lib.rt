@@ -8,6 +8,7 @@ ghost use Rattle.chunk.specs.Replies.{saysCounted, saysId, saysFlag, yes};
 ghost use Rattle.chunk_batch.specs.Replies.{saysWritten};
 ghost use Rattle.chunk_border.specs.Border.{saysExtracted};
 ghost use Rattle.chunk_tally.specs.Tally.{saysListed};
+ghost use Rattle.planes.specs.Planes.{saysCopied};
 ghost use Rattle.host_answers.specs.Answers.{answer, answerOf, batchAnswerOf, faceOf};
 use chunk::BlockId;
 use chunk::Counted;
@@ -18,6 +19,7 @@ use chunk_border::Face;
 use chunk_tally::Listed;
 use config::refusals::OK;
 use ground::Generated;
+use planes::Copied;
 
 // The answer of a call on cells: the number of its refusal or 0, its line, and its value.
 #[repr(C)]
@@ -139,6 +141,15 @@ pub fn tally_answer(a: Listed) -> Answer
     match a {
         Listed::Ids(n) => accepted(n),
         Listed::Refused(k) => refused(k),
+    }
+}
+
+pub fn planes_answer(a: Copied) -> Answer
+    ensures { λ r. ⌜ r ≡ answerOf (saysCopied a) ⌝ }
+{
+    match a {
+        Copied::Done => accepted(0),
+        Copied::Refused(k) => refused(k),
     }
 }
 

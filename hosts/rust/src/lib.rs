@@ -37,6 +37,10 @@ pub enum Refusal {
     UnknownName,
     /// It would be a seventeenth name.
     ManyNames,
+    /// A chunk of this size has no planes: it is not 1, 2, 4, 8, 16, 32 or 64.
+    PlanesSize,
+    /// The bytes of the planes are not 2 * size * size * size.
+    PlanesBytes,
     /// A number that this wrapper does not know: it does not belong to the archive.
     Unknown(u32),
 }
@@ -65,6 +69,8 @@ fn refusal(number: u32, line: usize) -> Result<(), Refusal> {
         25 => Refusal::Name,
         26 => Refusal::UnknownName,
         27 => Refusal::ManyNames,
+        28 => Refusal::PlanesSize,
+        29 => Refusal::PlanesBytes,
         other => Refusal::Unknown(other),
     })
 }
@@ -297,4 +303,17 @@ pub fn extract_border(cells: &[u16], size: usize, face: Face, border: &mut [u16]
 pub fn tally(cells: &[u16], size: usize, ids: &mut [u16], counts: &mut [u32]) -> Result<usize, Refusal> {
     let (i, m, k, l) = (ids.as_mut_ptr(), ids.len(), counts.as_mut_ptr(), counts.len());
     answered(unsafe { raw::pl_tally(cells.as_ptr(), cells.len(), size, i, m, k, l) })
+}
+
+/// Copies the cells of a chunk of size 1, 2, 4, 8, 16, 32 or 64 into twice as many bytes: all low bytes in Morton
+/// order, then all high bytes. `from_planes` undoes it.
+pub fn to_planes(cells: &[u16], size: usize, bytes: &mut [u8]) -> Result<(), Refusal> {
+    let (c, n, b, m) = (cells.as_ptr(), cells.len(), bytes.as_mut_ptr(), bytes.len());
+    answered(unsafe { raw::pl_to_planes(c, n, size, b, m) }).map(|_| ())
+}
+
+/// Restores the cells from what `to_planes` wrote. Any bytes of the right number are some cells' planes.
+pub fn from_planes(bytes: &[u8], size: usize, cells: &mut [u16]) -> Result<(), Refusal> {
+    let (b, m, c, n) = (bytes.as_ptr(), bytes.len(), cells.as_mut_ptr(), cells.len());
+    answered(unsafe { raw::pl_from_planes(b, m, size, c, n) }).map(|_| ())
 }

@@ -1,7 +1,11 @@
-//! An example host: a fresh map, presses, a cut at every byte, and the next tablet takes over. A wrong answer or
-//! map ends it with a message and exit status 1.
+//! An example host: a fresh map, presses, a cut at every byte, and the next tablet takes over; and a shelf copy
+//! of a chunk, written and restored (`shelf_copy`, `shelf_restore`). A wrong answer or map ends it with a message and
+//! exit status 1.
 use perillahinge::{self as map, Batch, Config, Face, Pos, Refusal, Session, SEED_MOST};
-use std::process::ExitCode;
+use std::env;
+use std::fs::{self, File};
+use std::io::{self, Read, Seek, Write};
+use std::process::{self, ExitCode};
 
 const SIZE: usize = 4;
 const CELLS: usize = SIZE * SIZE * SIZE;
@@ -660,6 +664,224 @@ fn viewer() -> Result<(), String> {
     Ok(())
 }
 
+/// The cells of the largest chunk.
+const MOST: usize = 64 * 64 * 64;
+
+/// The planes of one cell and of eight, worked out by hand: at size 2 the cells stand as they lie.
+fn planes() -> Result<(), String> {
+    let eight = [0x0901, 0x0a02, 0x0b03, 0x0c04, 0x0d05, 0x0e06, 0x0f07, 0x1008];
+    let wanted = [1, 2, 3, 4, 5, 6, 7, 8, 9, 10, 11, 12, 13, 14, 15, 16];
+    let (mut bytes, mut cells) = ([0; 16], [0; 8]);
+    let answer = map::to_planes(&[0xabcd], 1, &mut bytes[..2]);
+    check(
+        answer == Ok(()) && bytes[..3] == [0xcd, 0xab, 0],
+        "the planes of a cell",
+    )?;
+    let answer = map::from_planes(&[0xcd, 0xab], 1, &mut cells[..1]);
+    check(
+        answer == Ok(()) && cells[..2] == [0xabcd, 0],
+        "a cell from planes",
+    )?;
+    let answer = map::to_planes(&eight, 2, &mut bytes);
+    check(answer == Ok(()) && bytes == wanted, "the planes of eight cells")?;
+    let answer = map::from_planes(&wanted, 2, &mut cells);
+    check(answer == Ok(()) && cells == eight, "eight cells from planes")
+}
+
+/// Where single cells stand: size, cell and position, worked out by hand. In octal each digit of a position has one bit
+/// of x, y and z, worth 1, 2 and 4: (1, 2, 3) has x 01, y 10 and z 11, so its digits are 0 + 2 + 4 and 1 + 0 + 4.
+const POSITIONS: [(usize, [usize; 3], usize); 9] = [
+    (4, [1, 2, 3], 0o65),
+    (4, [2, 0, 0], 0o10),
+    (8, [4, 1, 2], 0o142),
+    (16, [9, 3, 12], 0o5423),
+    (32, [16, 0, 0], 0o10000),
+    (64, [32, 0, 0], 0o100000),
+    (64, [0, 32, 0], 0o200000),
+    (64, [0, 0, 1], 0o4),
+    (64, [21, 42, 63], 0o656565),
+];
+
+fn positions() -> Result<(), String> {
+    for (size, [x, y, z], position) in POSITIONS {
+        let n = size * size * size;
+        let (mut cells, mut bytes) = (vec![0; n], vec![0; 2 * n]);
+        cells[x + size * (y + size * z)] = 0x1234;
+        (bytes[position], bytes[n + position]) = (0x34, 0x12);
+        let (mut cells_made, mut bytes_made) = (vec![0xeeee; n], vec![0xee; 2 * n]);
+        let answers = [
+            map::to_planes(&cells, size, &mut bytes_made),
+            map::from_planes(&bytes, size, &mut cells_made),
+        ];
+        check(
+            answers == [Ok(()); 2] && bytes_made == bytes && cells_made == cells,
+            &format!("the cell {:?} of a chunk of {size}: {answers:?}", [x, y, z]),
+        )?;
+    }
+    Ok(())
+}
+
+/// Each call undoes the other, at every size, whatever ids and bytes they are.
+fn both_ways() -> Result<(), String> {
+    let cells: Vec<u16> = (1..=MOST).map(|i| ((40503 * i) >> 5) as u16).collect();
+    let bytes: Vec<u8> = (1..=2 * MOST).map(|i| ((40503 * i) >> 7) as u8).collect();
+    for size in [1, 2, 4, 8, 16, 32, 64] {
+        let n = size * size * size;
+        let (cells, bytes) = (&cells[..n], &bytes[..2 * n]);
+        let (mut cells_again, mut bytes_again) = (vec![0; n], vec![0; 2 * n]);
+        told(map::to_planes(cells, size, &mut bytes_again), "planes")?;
+        told(map::from_planes(&bytes_again, size, &mut cells_again), "cells")?;
+        check(cells_again == cells, &format!("{n} cells through their planes"))?;
+        told(map::from_planes(bytes, size, &mut cells_again), "cells")?;
+        told(map::to_planes(&cells_again, size, &mut bytes_again), "planes")?;
+        check(
+            bytes_again == bytes,
+            &format!("the planes of {n} cells through the cells"),
+        )?;
+    }
+    Ok(())
+}
+
+/// Size, number of cells and number of bytes of planes that are refused: another size, whatever the lengths are, also
+/// one whose cube no number holds; then cells of a wrong length; then bytes.
+const BAD_PLANES: [(usize, usize, usize, Refusal); 18] = [
+    (0, 0, 0, Refusal::PlanesSize),
+    (3, 27, 54, Refusal::PlanesSize),
+    (3, 8, 15, Refusal::PlanesSize),
+    (5, 125, 250, Refusal::PlanesSize),
+    (6, 8, 16, Refusal::PlanesSize),
+    (128, 8, 16, Refusal::PlanesSize),
+    (1 << 22, 0, 0, Refusal::PlanesSize),
+    (usize::MAX, 8, 16, Refusal::PlanesSize),
+    (2, 7, 16, Refusal::Length),
+    (2, 9, 16, Refusal::Length),
+    (2, 7, 14, Refusal::Length),
+    (2, 0, 0, Refusal::Length),
+    (64, 8, 16, Refusal::Length),
+    (1, 8, 16, Refusal::Length),
+    (2, 8, 15, Refusal::PlanesBytes),
+    (2, 8, 17, Refusal::PlanesBytes),
+    (2, 8, 8, Refusal::PlanesBytes),
+    (4, 64, 0, Refusal::PlanesBytes),
+];
+
+fn no_planes() -> Result<(), String> {
+    for (size, n, m, refusal) in BAD_PLANES {
+        let (mut cells, mut bytes) = (vec![0xeeee; n], vec![0x11; m]);
+        let answers = [
+            map::to_planes(&vec![0x2222; n], size, &mut bytes),
+            map::from_planes(&vec![0x33; m], size, &mut cells),
+        ];
+        check(
+            answers == [Err(refusal); 2],
+            &format!("planes of size {size} with {n} cells and {m} bytes: {answers:?}"),
+        )?;
+        check(
+            cells == vec![0xeeee; n] && bytes == vec![0x11; m],
+            "refused planes change nothing",
+        )?;
+    }
+    Ok(())
+}
+
+/// Writes a shelf copy, which has the cells without a replay of the journal: the journal's first line, then the planes.
+/// The planes do not tell what they are a copy of; the line has size, settings and place. A real host also stores a
+/// checksum, and may compress the planes. A chunk of a size without planes is refused (`PlanesSize`): a host stores its
+/// cells as they are.
+fn shelf_copy(file: &mut impl Write, chunk: &Tablet) -> Result<(), String> {
+    let mut planes = vec![0; 2 * chunk.cells.len()];
+    let size = chunk.session.config.chunk_size;
+    told(map::to_planes(&chunk.cells, size, &mut planes), "planes")?;
+    let line = chunk.journal.split_inclusive(|&b| b == b'\n').next();
+    file.write_all(line.unwrap_or_default())
+        .and_then(|()| file.write_all(&planes))
+        .map_err(|e| format!("writing a shelf copy: {e}"))
+}
+
+/// Restores a shelf copy into cells. Answers the record of its line, for settings and place: to go on building, a
+/// session needs its whole journal. A line of another form, or of another size than the cells have, is refused, and so
+/// are planes too short or too long. But any bytes of the right number are some chunk's planes: that they are those
+/// that were written no call can tell, and a real host holds them to its checksum first.
+fn shelf_restore(file: &mut impl Read, cells: &mut [u16]) -> Result<Session, String> {
+    let mut bytes = Vec::new();
+    file.read_to_end(&mut bytes)
+        .map_err(|e| format!("reading a shelf copy: {e}"))?;
+    let end = bytes.iter().position(|&b| b == b'\n').map_or(0, |at| at + 1);
+    let (line, planes) = bytes.split_at(end);
+    // Reopening reads the line, and lays the bare ground beside the cells.
+    let mut ground = vec![0; cells.len()];
+    let record = told(map::reopen(&mut ground, line, end), "the line")?.session;
+    told(
+        map::from_planes(planes, record.config.chunk_size, cells),
+        "the planes",
+    )?;
+    Ok(record)
+}
+
+/// An empty file that is gone when it is closed.
+fn passing_file() -> io::Result<File> {
+    let path = env::temp_dir().join(format!("perillahinge-{}.shelf", process::id()));
+    let file = File::options()
+        .read(true)
+        .write(true)
+        .create_new(true)
+        .open(&path)?;
+    fs::remove_file(&path).map(|()| file)
+}
+
+/// What builders did to the chunk of 16 that goes onto the shelf.
+const BUILT: [(Press, Answer); 2] = [
+    (Press::Column([3, 5], 16, 300), Ok(Told::Altered(16))),
+    (Press::Batch(&[15, 0, 15, 65535]), ONE_CELL),
+];
+
+const ONE_CELL: Answer = Ok(Told::Batch(Batch {
+    written: 1,
+    altered: 1,
+}));
+
+/// A chunk that was built in goes onto the shelf and comes back.
+fn shelf() -> Result<(), String> {
+    let config = Config {
+        seed: 7,
+        sea_level: 24,
+        world_height_blocks: 64,
+        chunk_size: 16,
+    };
+    let mut chunk = fresh(config, Pos { cx: 0, cy: 1, cz: 0 })?;
+    let record = chunk.session;
+    replay("the shelf", &mut chunk, &BUILT)?;
+    let mut file = passing_file().map_err(|e| format!("a file for the shelf: {e}"))?;
+    shelf_copy(&mut file, &chunk)?;
+    file.rewind().map_err(|e| format!("the file again: {e}"))?;
+    let mut cells = vec![0xeeee; 16 * 16 * 16];
+    let restored = shelf_restore(&mut file, &mut cells)?;
+    check(
+        restored == record && cells == chunk.cells,
+        "a shelf copy gives settings, place and cells back",
+    )
+}
+
+/// Zeros behind a first line: one too few and one too many are no shelf copy, and leave the cells. The right number is
+/// one, of a chunk of air, though nobody wrote it.
+fn shelf_of_zeros() -> Result<(), String> {
+    for n in [8191, 8192, 8193] {
+        let mut bytes = b"G\t7\t24\t64\t16\t0\t1\t0\n".to_vec();
+        bytes.resize(bytes.len() + n, 0);
+        let mut cells = vec![0xeeee; 16 * 16 * 16];
+        let answer = shelf_restore(&mut &bytes[..], &mut cells).map(|record| record.config.seed);
+        let (wanted, id) = match n {
+            8192 => (Ok(7), 0),
+            _ => (Err("the planes: refused, PlanesBytes".to_string()), 0xeeee),
+        };
+        check(
+            answer == wanted && cells.iter().all(|&cell| cell == id),
+            &format!("a shelf copy of {n} zeros: {answer:?}"),
+        )?;
+    }
+    Ok(())
+}
+
 fn run() -> Result<usize, String> {
     let mut tablet = begin()?;
     let mut maps = vec![tablet.clone()];
@@ -699,6 +921,12 @@ fn run() -> Result<usize, String> {
     many()?;
     tallies()?;
     viewer()?;
+    planes()?;
+    positions()?;
+    both_ways()?;
+    no_planes()?;
+    shelf()?;
+    shelf_of_zeros()?;
     Ok(stored.len())
 }
 

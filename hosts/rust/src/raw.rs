@@ -98,6 +98,10 @@ pub const PL_MANY_NAMES: u32 = 27;
 pub const PL_NAME_MOST: usize = 16;
 pub const PL_NAMES_MOST: usize = 16;
 
+// Planes: why a call was refused.
+pub const PL_PLANES_SIZE: u32 = 28;
+pub const PL_PLANES_BYTES: u32 = 29;
+
 // Sessions.
 extern "C" {
     pub fn pl_session_fresh(
@@ -237,6 +241,24 @@ extern "C" {
         ids_len: usize,
         counts: *mut u32,
         counts_len: usize,
+    ) -> Answer;
+}
+
+// Planes.
+extern "C" {
+    pub fn pl_to_planes(
+        cells: *const u16,
+        cells_len: usize,
+        size: usize,
+        bytes: *mut u8,
+        bytes_len: usize,
+    ) -> Answer;
+    pub fn pl_from_planes(
+        bytes: *const u8,
+        bytes_len: usize,
+        size: usize,
+        cells: *mut u16,
+        cells_len: usize,
     ) -> Answer;
 }
 
