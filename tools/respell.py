@@ -15,7 +15,7 @@ import sys
 NAME = r"(?<![\w'\-«·])[^\W\d_][\w']*(?:-[\w']+)*"
 TOKEN = re.compile(r"--[^\n]*|\"(?:[^\"\\]|\\.)*\"|«[^»]*»|(?:" + NAME + r"\.)*" + NAME)
 # Definitions whose lemma port.py had spelled as they are now: the lemma takes the ending. And a function into types.
-FIRST = {"afterLine": "after_line", "bumpAt": "bump_at", "goOn": "go_on", "rowMore": "row_more", "yOf": "y_of"}
+FIRST = {"borderInCDoes": "border_in_c_does", "afterLine": "after_line", "bumpAt": "bump_at", "goOn": "go_on", "rowMore": "row_more", "yOf": "y_of"}
 ALSO = {"maxHeight": "max_height", "seedIn": "seed_in", "writtenTo": "written_to"}
 IN_FILE = {
     "crates/journal_format/specs/Follow.antt": {"after_line": "after_line_lem"},

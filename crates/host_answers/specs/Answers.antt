@@ -92,8 +92,8 @@ border_at (some face) size c b = border_in_c (chunk_border_does face size c b)
 border_at none size c b = border_answered (answer 99 0 0) b
 
 -- `extract_border` of a number
-unfoldable pub border_in_cdoes : ℕ → ℕ → List ℕ → List ℕ → BorderAnswered
-border_in_cdoes n size c b = border_at (face_of n) size c b
+unfoldable pub border_in_c_does : ℕ → ℕ → List ℕ → List ℕ → BorderAnswered
+border_in_c_does n size c b = border_at (face_of n) size c b
 
 -- ---- the tally
 
@@ -131,8 +131,8 @@ pub batch_in_c_lem : (r : BatchAnswerInC) (a : Answer) (c : List ℕ) (o : Cells
 batch_in_c_lem r a c o e f = ap (λ (u : BatchAnswerInC). batch_answered u c) e ∙ ap batch_in_c f
 
 pub border_in_c_lem : (n size : ℕ) (face : Face) (c b b' : List ℕ) (r : AnswerInC) (a : Answer)
-    → face_of n ≡ some face → r ≡ answer_of a → bordered a b' ≡ chunk_border_does face size c b → border_answered r b' ≡ border_in_cdoes n size c b
-unfolding border_in_cdoes
+    → face_of n ≡ some face → r ≡ answer_of a → bordered a b' ≡ chunk_border_does face size c b → border_answered r b' ≡ border_in_c_does n size c b
+unfolding border_in_c_does
 border_in_c_lem n size face c b b' r a g e f = rw g (ap (λ (u : AnswerInC). border_answered u b') e ∙ ap border_in_c f)
 
 pub tally_in_c_lem : (r : AnswerInC) (a : Answer) (ids counts : List ℕ) (o : TallyOutcome)
@@ -152,6 +152,6 @@ no_face (suc (suc (suc (suc zero)))) h = absurd (omega arith)
 no_face (suc (suc (suc (suc (suc zero))))) h = absurd (omega arith)
 no_face (suc (suc (suc (suc (suc (suc n)))))) h = refl
 
-pub border_no_face : (n size : ℕ) (c b : List ℕ) (r : AnswerInC) → 5 < n → r ≡ answer 99 0 0 → border_answered r b ≡ border_in_cdoes n size c b
-unfolding border_in_cdoes
+pub border_no_face : (n size : ℕ) (c b : List ℕ) (r : AnswerInC) → 5 < n → r ≡ answer 99 0 0 → border_answered r b ≡ border_in_c_does n size c b
+unfolding border_in_c_does
 border_no_face n size c b r h e = rw (no_face n h) (ap (λ (u : AnswerInC). border_answered u b) e)

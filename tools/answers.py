@@ -1,0 +1,389 @@
+#!/usr/bin/env python3
+"""Turns the Proof.antt files of a crate into Invariants.antt and Answers.antt, the form of today's proofs.
+
+usage: answers.py NAMES CRATE [FUNCTION..]
+
+NAMES is the names.json that `rt check --generated DIR --old-names` writes for the crate, and CRATE the folder above proofs/.
+A goal's answer keeps its term; the goal, the places and the steps get the names that NAMES gives. An answer that only says
+`search rules` goes, since the check searches by itself. It was used once, for the move to today's Rattle.
+"""
+import json
+import os
+import re
+import sys
+
+NAME = r"(?<![\w'\-«·])[^\W\d_][\w']*(?:-[\w']+)*"
+LOCAL = r"[\w'₀-₉]+(?:-[\w']+)*"
+
+
+def norm(name):
+    return re.sub("-+", "-", name.replace("_", "-"))
+
+
+def chunks(text):
+    """The top-level declarations of a file, each with the comments above it."""
+    out, now = [], []
+    for line in text.split("\n"):
+        if line and not line[0].isspace() and now and not all(l.startswith("--") or not l for l in now):
+            head = [l for l in now if l and not l.startswith("--")]
+            sig = head[0] if head else ""
+            name = re.sub(r"^(?:(?:pub|abbrev|unfoldable) )*", "", sig).split(" ")[0]
+            cont = line.startswith(name + " ") and not re.match(re.escape(name) + r" :", line) or line.startswith("unfolding ")
+            if not cont:
+                out.append("\n".join(now).strip("\n"))
+                now = []
+        now.append(line)
+    out.append("\n".join(now).strip("\n"))
+    return [c for c in out if c.strip()]
+
+
+def head_of(chunk):
+    for l in chunk.split("\n"):
+        if l and not l.startswith("--"):
+            return l
+    return ""
+
+
+def declared(chunk):
+    h = re.sub(r"^(?:(?:pub|abbrev|unfoldable|pattern) )*", "", head_of(chunk))
+    m = re.match(r"(record|data) (\S+)", h)
+    if m:
+        return m[2]
+    return h.split(" ")[0]
+
+
+def split_args(text):
+    """The arguments of an application, parenthesised ones whole."""
+    out, depth, now = [], 0, ""
+    for ch in text:
+        if ch in "([{":
+            depth += 1
+        if ch in ")]}":
+            depth -= 1
+        if ch.isspace() and depth == 0:
+            if now:
+                out.append(now)
+            now = ""
+        else:
+            now += ch
+    if now:
+        out.append(now)
+    return out
+
+
+class Stop(Exception):
+    pass
+
+
+class Turn:
+    def __init__(self, crate, path, names):
+        self.crate, self.path, self.names = crate, path, names
+        self.module = f"Rattle.{crate}.proofs.{path}"
+        self.needs = names["needs"]
+        self.labels = {}
+        for i, (old, parent, pair, fn, rest) in enumerate(names["places"]):
+            if pair[0]:
+                self.labels[norm(pair[0])] = pair[1]
+        self.places = {norm(p[0]): n for p, n in zip(names["places"], names["places_by_name"])}
+        self.left = []
+
+    def label(self, part):
+        n = norm(part)
+        if n in self.labels:
+            return self.labels[n]
+        if n.endswith("-lem") and n[:-4] in self.labels:
+            return self.labels[n[:-4]]
+        return None
+
+    def chain(self, m):
+        root, parts = m[1], m[2].split(".")[1:]
+        if root and root.split(".")[0] in ("tie", "goal", "Rattle", "mathlib", "lib", "borrow", "mir", "native", "Prim"):
+            return m[0]
+        k = 0
+        while k < len(parts) and parts[k] == "before":
+            k += 1
+        if k < len(parts):
+            if parts[k] in ("args", "requires", "ranges", "well-formed", "well_formed", "lifetimes", "type-inv", "type_inv"):
+                new = parts[k].replace("-", "_")
+            else:
+                new = self.label(parts[k])
+            if new and (k or parts[k] in ("args", "requires", "ranges") or root == "" or True):
+                parts = [new] + parts[k + 1 :]
+        if root not in self.labels:
+            parts = [{"taken": "true", "left": "false"}.get(p, p) if i == 1 and parts[0].isdigit() else p for i, p in enumerate(parts)]
+        parts = [p.replace("type-inv", "type_inv").replace("well-formed", "well_formed") for p in parts]
+        return root + "." + ".".join(parts)
+
+    def term(self, text):
+        out = []
+        for line in text.split("\n"):
+            code, dash, note = (line, "", "") if "--" not in line else line.partition("--")
+            code = re.sub(r"((?:" + LOCAL + r"|\)|\}))((?:\.[^\s(){}.;,\"«»\[\]\\]+)+)", self.chain, code)
+            out.append(code + dash + note)
+        return "\n".join(out)
+
+    def unaliased(self, text):
+        """Drops a let that only names an earlier place, where each use of it reads a step."""
+        while True:
+            m = re.search(r"let (" + LOCAL + r") = (" + LOCAL + r")((?:\.before)+) in\s*", text)
+            at = 0
+            done = False
+            for m in re.finditer(r"let (" + LOCAL + r") = (" + LOCAL + r")((?:\.before)+) in[ \t]*(\n[ \t]*)?", text):
+                var, root = m[1], m[2]
+                rest = text[m.end() :]
+                uses = list(re.finditer(r"(?<![\w'.\-])" + re.escape(var) + r"(?![\w'\-])", rest))
+                ok = all(re.match(r"\.(?!before)", rest[u.end() :]) for u in uses) and uses
+                if ok:
+                    rest = re.sub(r"(?<![\w'.\-])" + re.escape(var) + r"(?=\.)", root, rest)
+                    text = text[: m.start()] + rest
+                    done = True
+                    break
+            if not done:
+                return text
+
+    def run(self, text):
+        parts = chunks(text)
+        uses = [l for l in text.split("\n") if re.match(r"(pub )?use ", l)]
+        uses = [l for l in uses if not re.search(r"\.(Statement|Tie)( as \w+|\.\{[^}]*\})?$", l)]
+        head = "\n".join(l for l in parts[0].split("\n") if l.startswith("--")) if parts else ""
+        decls = []
+        for c in parts:
+            lines = [l for l in c.split("\n") if not re.match(r"(pub )?use ", l)]
+            c2 = "\n".join(lines).strip("\n")
+            if c2 and not all(l.startswith("--") or not l.strip() for l in lines):
+                decls.append(c2)
+        first_comment = []
+        for l in text.split("\n"):
+            if l.startswith("--"):
+                first_comment.append(l)
+            else:
+                break
+        if decls and first_comment and decls[0].startswith("\n".join(first_comment)):
+            decls[0] = decls[0][len("\n".join(first_comment)) :].strip("\n")
+        final = [d for d in decls if re.search(r"\(?tie\.spec\b", d)]
+        if len(final) != 1:
+            raise Stop("no single tie.spec")
+        decls.remove(final[0])
+        m = re.search(r"tie\.close\s*\(tie\.spec(.*)\)\s*$", final[0], re.S)
+        m2 = re.search(r"tie\.close\s+tie\.spec\s*$", final[0], re.S)
+        if not m and not m2:
+            raise Stop("tie.close has another form")
+        args = split_args(m[1]) if m else []
+        nl = len(self.names["loops"])
+        if len(args) != 2 * nl + len(self.needs):
+            raise Stop(f"{len(args)} arguments, {nl} loops and {len(self.needs)} goals: {[n[0] for n in self.needs]} / {args}")
+        loops, answers = args[: 2 * nl], args[2 * nl :]
+        kinds = {}
+        goal_of, renamed = {}, {}
+        for a, (old, new) in zip(answers, self.needs):
+            goal_of.setdefault(a, []).append(new)
+        by_name = {declared(d): d for d in decls}
+        # the loops
+        inv = {}
+        order = [("invariant", "decreases")[i % 2] for i in range(2 * nl)]
+        # tie.spec takes all invariants and measures in the order of the loops
+        for i, a in enumerate(loops):
+            sig = head_of(by_name.get(a, ""))
+            kind = "invariant" if "tie.invariant" in sig else "decreases"
+            inv.setdefault(kind, []).append(a)
+        out_inv, inv_names = [], []
+        for kind in ("invariant", "decreases"):
+            got = inv.get(kind, [])
+            if len(got) != nl:
+                raise Stop("loops without a definition: " + " ".join(loops))
+        loop_names = [l[0] for l in self.names["loops"]]
+        for k in range(nl):
+            for kind in ("invariant", "decreases"):
+                a = inv[kind][k]
+                d = by_name[a]
+                # which loop: by the name after the kind
+                which = norm(a)[len(kind) + 1 :]
+                idx = next((i for i, l in enumerate(loop_names) if norm(l[0]) == which), k)
+                out_inv.append((d, kind, idx, a))
+                inv_names.append(a)
+        # what the invariants need
+        rest = [d for d in decls if declared(d) not in inv_names]
+        needed, grow = set(), "\n".join(by_name[a] for a in inv_names)
+        while True:
+            more = {declared(d) for d in rest if declared(d) not in needed and "tie." not in d and declared(d) not in ("module",) and re.search(r"(?<![\w'\-.])" + re.escape(declared(d)) + r"(?![\w'\-])", grow)}
+            if not more:
+                break
+            needed |= more
+            grow += "\n" + "\n".join(by_name[n] for n in more)
+        files = {}
+        inv_text = ""
+        if nl:
+            body = []
+            for d in rest:
+                if declared(d) in needed:
+                    body.append(self.public(d))
+            for d, kind, idx, a in sorted(out_inv, key=lambda t: t[2]):
+                body.append(self.loop(d, kind, idx, a))
+            inv_text = "\n\n".join(body)
+            places = ""
+            files["Invariants.antt"] = (inv_text, [f"use {self.module}.Given as goal"])
+        # the answers
+        body, used_places, names_now = [], [], {}
+        for a, news in goal_of.items():
+            if re.fullmatch(NAME, a):
+                names_now[a] = news[0]
+        dropped = []
+        texts = []
+        for d in rest:
+            n = declared(d)
+            if n in needed:
+                continue
+            texts.append((n, d))
+        everything = "\n".join(d for n, d in texts)
+        for n, d in texts:
+            if n in goal_of:
+                clause = re.sub(r"^--[^\n]*\n", "", d)
+                is_search = re.search(r"(?s)^[^\n]*\n" + re.escape(n) + r" c(?: \S+)? = search rules\s*$", "\n".join(l for l in d.split("\n") if not l.startswith("--")))
+                used = len(re.findall(r"(?<![\w'\-.])" + re.escape(n) + r"(?![\w'\-])", everything))
+                own = len(re.findall(r"(?<![\w'\-.])" + re.escape(n) + r"(?![\w'\-])", d))
+                if is_search and used == own:
+                    dropped.append(n)
+                    continue
+            body.append((n, d))
+        out = []
+        for n, d in body:
+            t = d
+            # the type of an answer
+            if n in goal_of:
+                new = goal_of[n][0]
+                t = re.sub(r"(?m)^" + re.escape(n) + r" : tie\.[^\n]*$", f"pub {n} : goal.{new}", t, count=1)
+                if f"goal.{new}" not in t:
+                    self.left.append(f"signature of {n}")
+            # places
+            def place(m):
+                p = norm(m[1])
+                if p in self.places:
+                    used_places.append(self.places[p])
+                    return self.places[p]
+                if p.startswith("Need-"):
+                    key = p[5:]
+                    for old, new in self.needs:
+                        if norm(old) == key or norm(old) == re.sub("^overflow-", "", key):
+                            return "goal." + new
+                self.left.append("place " + m[1])
+                return m[0]
+
+            loops_after = "".join(r"(?: " + re.escape(x) + ")?" for x in loops)
+            t = re.sub(r"tie\.(" + LOCAL + r")" + loops_after, place, t)
+            t = self.unaliased(t)
+            t = self.term(t)
+            t = re.sub(r"(?<![\w'\-.])" + NAME.replace(r"(?<![\w'\-«·])", "") + r"(?![\w'\-])", lambda m: names_now.get(m[0], m[0]), t)
+            out.append(t)
+            for extra in goal_of.get(n, [])[1:]:
+                out.append(f"pub {extra} : goal.{extra}\n{extra} = {names_now[n]}")
+        for a, news in goal_of.items():
+            if not re.fullmatch(NAME, a) or a not in by_name:
+                for new in news:
+                    out.append(f"pub {new} : goal.{new}\n{new} = {self.term(a)}")
+        if out:
+            more = [f"use {self.module}.Goals as goal"]
+            if used_places:
+                more.insert(0, f"use {self.module}.Goals.{{{', '.join(sorted(set(used_places)))}}}")
+            if needed:
+                more.insert(0, f"use {self.module}.Invariants.{{{', '.join(sorted(needed))}}}")
+            text = "\n\n".join(out)
+            more = [m for m in more if not m.endswith("as goal") or "goal." in text]
+            files["Answers.antt"] = (text, more)
+        done = {}
+        said = False
+        for f, (t, more) in files.items():
+            lines = []
+            for u in uses:
+                m = re.match(r"((?:pub )?use [^\s{]+\.)\{([^}]*)\}$", u)
+                if m:
+                    keep = [n.strip() for n in m[2].split(",") if self.cited(n.strip(), t)]
+                    if keep:
+                        lines.append(m[1] + "{" + ", ".join(keep) + "}")
+                else:
+                    alias = u.split(" as ")[-1] if " as " in u else u.split(".")[-1]
+                    if re.search(r"(?<![\w'])" + re.escape(alias) + r"\.", t) or " as " not in u and alias in t:
+                        lines.append(u)
+            comment = "\n".join(first_comment) + "\n" if first_comment and (f == "Invariants.antt" or "Invariants.antt" not in files) else ""
+            done[f] = comment + "\n".join(lines + more) + "\n\n" + t + "\n"
+        return done, dropped
+
+    def cited(self, name, text):
+        name = name.split(" as ")[-1].strip()
+        if "◌" in name:
+            return any(re.search(re.escape(p), text) for p in name.split("◌") if p)
+        return re.search(r"(?<![\w'\-])" + re.escape(name) + r"(?![\w'\-])", text) is not None
+
+    def public(self, d):
+        lines = d.split("\n")
+        for i, l in enumerate(lines):
+            if l and not l.startswith("--") and not l[0].isspace():
+                if re.match(r"(record|data) ", l):
+                    lines[i] = "pub " + l
+                elif re.match(r"abbrev (?!pub)", l):
+                    lines[i] = l.replace("abbrev ", "abbrev pub ", 1)
+                elif re.match(r"unfoldable (?!pub)", l):
+                    lines[i] = l.replace("unfoldable ", "unfoldable pub ", 1)
+                elif not l.startswith("pub ") and " : " in l or l.endswith(" :"):
+                    lines[i] = "pub " + l
+                break
+        if "record " in head_of(d):
+            lines = [re.sub(r"^(  )(?=[a-z][\w']*(?:[ ][a-z][\w']*)* : )", r"\1pub ", l) for l in lines]
+        return "\n".join(lines)
+
+    def loop(self, d, kind, idx, a):
+        (old, new), vars = self.names["loops"][idx][0], self.names["loops"][idx][1]
+        changed = self.names["changed"][idx]
+        lines = d.split("\n")
+        at = next(i for i, l in enumerate(lines) if re.match(re.escape(a) + r"[ ](?!:)", l))
+        notes = [l for l in lines[:at] if l.startswith("--")]
+        unf = [l for l in lines[:at] if l.startswith("unfolding")]
+        clause = "\n".join(lines[at:])
+        m = re.match(re.escape(a) + r"((?: " + r"[^\s=]+)*) =(\s.*)$", clause, re.S)
+        params = m[1].split()
+        body = m[2]
+        want = [(v, "l.initial." + v if c else "l." + v) for v, c in zip(vars, changed)] + [(v, "l." + v) for v, c in zip(vars, changed) if c]
+        if len(params) != len(want):
+            raise Stop(f"{a} has {params}, the loop has {vars} {changed}")
+        for p, (v, to) in sorted(zip(params, want), key=lambda t: -len(t[0])):
+            if p == "_":
+                continue
+            body = re.sub(r"(?<![\w'\-.₀-₉])" + re.escape(p) + r"(?![\w'\-₀-₉])", "\1" + to.replace(".", "\2"), body)
+        body = body.replace("\1", "").replace("\2", ".")
+        name = f"{kind}-{new}"
+        return "\n".join(notes + [f"abbrev pub {name} : goal.{name}"] + unf + [f"{name} l ={body}"])
+
+
+def main():
+    names = json.load(open(sys.argv[1]))
+    crate = sys.argv[2].rstrip("/")
+    only = sys.argv[3:]
+    cname = os.path.basename(crate)
+    for folder, dirs, files in sorted(os.walk(os.path.join(crate, "proofs"))):
+        if "Proof.antt" not in files:
+            continue
+        path = os.path.relpath(folder, os.path.join(crate, "proofs")).replace("/", ".")
+        if only and path not in only:
+            continue
+        key = f"Rattle-{cname}-proofs.{path}.Lts"
+        if key not in names:
+            print(f"left: {path}: no names")
+            continue
+        text = open(os.path.join(folder, "Proof.antt"), encoding="utf-8").read()
+        t = Turn(cname, path, names[key])
+        try:
+            done, dropped = t.run(text)
+        except Stop as e:
+            print(f"left: {path}: {e}")
+            continue
+        for l in t.left:
+            print(f"look: {path}: {l}")
+        os.remove(os.path.join(folder, "Proof.antt"))
+        for f, s in done.items():
+            with open(os.path.join(folder, f), "w", encoding="utf-8") as out:
+                out.write(s)
+        if not done:
+            os.rmdir(folder)
+
+
+if __name__ == "__main__":
+    main()
