@@ -85,7 +85,20 @@ class Turn:
             if pair[0]:
                 self.labels[norm(pair[0])] = pair[1]
         self.places = {norm(p[0]): n for p, n in zip(names["places"], names["places_by_name"])}
+        self.parent = {n: None for n in names["places_by_name"]}
+        index = {p[0]: n for p, n in zip(names["places"], names["places_by_name"])}
+        for p, n in zip(names["places"], names["places_by_name"]):
+            self.parent[n] = index.get(p[1])
+        self.asked = {new: at[1] for (old, new), at in zip(names["needs"], names["asked_at"])}
+        self.cited_places = set()
+        self.env = {}
+        self.gives = {}
         self.left = []
+
+    def up(self, place, k):
+        for _ in range(k):
+            place = self.parent.get(place) if place else None
+        return place
 
     def label(self, part):
         n = norm(part)
@@ -102,6 +115,18 @@ class Turn:
         k = 0
         while k < len(parts) and parts[k] == "before":
             k += 1
+        if k == len(parts):
+            at = self.env.get(root)
+            if at:
+                place, key = at
+                target = self.up(place, k)
+                if target:
+                    self.cited_places.add(target)
+                    if key == place:
+                        self.cited_places.add(place)
+                    return f"(goal.at.{key} {root}).{target}"
+            self.left.append("a place: " + m[0])
+            return m[0]
         if k < len(parts):
             if parts[k] in ("args", "requires", "ranges", "well-formed", "well_formed", "lifetimes", "type-inv", "type_inv"):
                 new = parts[k].replace("-", "_")
@@ -114,11 +139,39 @@ class Turn:
         parts = [p.replace("type-inv", "type_inv").replace("well-formed", "well_formed") for p in parts]
         return root + "." + ".".join(parts)
 
+    def applied(self, code):
+        """Chains behind an application of a helper that gives a place."""
+        while True:
+            m = re.search(r"\(([\w'₀-₉]+) ([^()]*)\)((?:\.before)+)(?![.\w])", code)
+            if not m:
+                return code
+            place = self.gives.get(m[1])
+            target = self.up(place, m[3].count(".before")) if place else None
+            if not target:
+                self.left.append("a place: " + m[0])
+                return code
+            self.cited_places |= {place, target}
+            code = code[: m.start()] + f"(goal.at.{place} ({m[1]} {m[2]})).{target}" + code[m.end() :]
+
     def term(self, text):
         out = []
         for line in text.split("\n"):
             code, dash, note = (line, "", "") if "--" not in line else line.partition("--")
+            code = self.applied(code)
+            b = re.match(r"\s*let ([\w'₀-₉]+) = ([\w'₀-₉]+)((?:\.before)*) in\s*$", code)
+            b2 = re.match(r"\s*let ([\w'₀-₉]+) = \(([\w'₀-₉]+) [^()]*\)((?:\.before)*) in\s*$", code)
+            b3 = re.match(r"\s*let ([\w'₀-₉]+) = ([\w'₀-₉]+) [\w'₀-₉]+ in\s*$", code)
+            made = None
+            if b and b[2] in self.env:
+                made = (b[1], self.up(self.env[b[2]][0], b[3].count(".before")), self.env[b[2]][1] if not b[3] else None)
+            elif b2 and b2[2] in self.gives:
+                made = (b2[1], self.up(self.gives[b2[2]], b2[3].count(".before")), None)
+            elif b3 and b3[2] in self.gives:
+                made = (b3[1], self.gives[b3[2]], None)
             code = re.sub(r"((?:" + LOCAL + r"|\)|\}))((?:\.[^\s(){}.;,\"«»\[\]\\]+)+)", self.chain, code)
+            if made and made[1]:
+                self.env[made[0]] = (made[1], made[2] or made[1])
+            code = re.sub(r"(?<![\w'\-.])not-(?:true|false) (?:_|[\w'.\-₀-₉]+|\([^()]*\)) ((?:\([^()]*\)|[\w'₀-₉]+)\.if-[\w'\-]+\.(?:true|false))", r"\1", code)
             out.append(code + dash + note)
         return "\n".join(out)
 
@@ -246,8 +299,36 @@ class Turn:
                     continue
             body.append((n, d))
         out = []
+
+        def of_place(text):
+            return [self.places[norm(x)] for x in re.findall(r"tie\.(" + LOCAL + r")", text) if norm(x) in self.places]
+
+        for n, d in texts:
+            sig = "\n".join(l for l in d.split("\n") if not l.startswith("--"))
+            for m in re.finditer(r"(?m)^ *(?:(?:pub|abbrev|unfoldable) )*([\w'₀-₉]+(?:-[\w']+)*) : ([^\n]*)$", sig):
+                got = of_place(m[2])
+                last = m[2].split("→")[-1]
+                if of_place(last) and "≡" not in last:
+                    self.gives[m[1]] = of_place(last)[-1]
         for n, d in body:
             t = d
+            self.env = {}
+            if n in goal_of:
+                g = goal_of[n][0]
+                self.env["c"] = (self.asked[g], g)
+            for m in re.finditer(r"\(([\w'₀-₉ ]+) : tie\.(" + LOCAL + r")", d):
+                if norm(m[2]) in self.places:
+                    for v in m[1].split():
+                        self.env[v] = (self.places[norm(m[2])], self.places[norm(m[2])])
+            for m in re.finditer(r"(?m)^ *(?:(?:pub|abbrev|unfoldable) )*([\w'₀-₉]+(?:-[\w']+)*) : tie\.(" + LOCAL + r")([^\n]*)$", d):
+                if n in goal_of or norm(m[2]) not in self.places:
+                    continue
+                if "→" in m[3]:
+                    c = re.search(r"(?m)^ *" + re.escape(m[1]) + r" ([\w'₀-₉]+) =", d)
+                    if c:
+                        self.env[c[1]] = (self.places[norm(m[2])], self.places[norm(m[2])])
+                else:
+                    self.env[m[1]] = (self.places[norm(m[2])], self.places[norm(m[2])])
             # the type of an answer
             if n in goal_of:
                 new = goal_of[n][0]
@@ -273,6 +354,8 @@ class Turn:
             t = self.unaliased(t)
             t = self.term(t)
             t = re.sub(r"(?<![\w'\-.])" + NAME.replace(r"(?<![\w'\-«·])", "") + r"(?![\w'\-])", lambda m: names_now.get(m[0], m[0]), t)
+            if not re.search(r"κs", "\n".join(l for l in t.split("\n") if not re.match(r"\S+ c κs =", l)).replace(" c κs =", "")):
+                t = re.sub(r"(?m)^(\S+ c) κs =", r"\1 =", t)
             out.append(t)
             for extra in goal_of.get(n, [])[1:]:
                 out.append(f"pub {extra} : goal.{extra}\n{extra} = {names_now[n]}")
@@ -282,6 +365,7 @@ class Turn:
                     out.append(f"pub {new} : goal.{new}\n{new} = {self.term(a)}")
         if out:
             more = [f"use {self.module}.Goals as goal"]
+            used_places = set(used_places) | self.cited_places
             if used_places:
                 more.insert(0, f"use {self.module}.Goals.{{{', '.join(sorted(set(used_places)))}}}")
             if needed:
@@ -344,11 +428,8 @@ class Turn:
         want = [(v, "l.initial." + v if c else "l." + v) for v, c in zip(vars, changed)] + [(v, "l." + v) for v, c in zip(vars, changed) if c]
         if len(params) != len(want):
             raise Stop(f"{a} has {params}, the loop has {vars} {changed}")
-        for p, (v, to) in sorted(zip(params, want), key=lambda t: -len(t[0])):
-            if p == "_":
-                continue
-            body = re.sub(r"(?<![\w'\-.₀-₉])" + re.escape(p) + r"(?![\w'\-₀-₉])", "\1" + to.replace(".", "\2"), body)
-        body = body.replace("\1", "").replace("\2", ".")
+        to = {p: w for p, (v, w) in zip(params, want) if p != "_"}
+        body = re.sub(r"(?<![\w'\-.₀-₉])[^\W\d][\w'₀-₉]*(?:-[\w']+)*(?![\w'\-₀-₉])", lambda m: to.get(m[0], m[0]), body)
         name = f"{kind}-{new}"
         return "\n".join(notes + [f"abbrev pub {name} : goal.{name}"] + unf + [f"{name} l ={body}"])
 
