@@ -7,7 +7,7 @@ use Rattle.grid.specs.Cube.{cell_index}
 use Rattle.ground_cell.specs.World.{base_cell}
 use Rattle.ground.specs.Ground.{world_of}
 use Rattle.ground_sizes.specs.Over.{Over}
-use Rattle.ground_sizes.specs.Contracts.{NotedTops, LaidRows, Generates}
+use Rattle.ground_sizes.specs.AsMade.{NotedTops, LaidRows, Generates}
 
 -- settings that differ in size only
 pub record SizeOnly (s t : TerrainConfig) : Type 0 where
