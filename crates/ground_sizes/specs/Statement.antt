@@ -1,4 +1,4 @@
--- ANY SIZE, ONE GROUND, SCOPE 4.16: one statement about chunks of two sizes as the code leaves them. `Contracts` says what the code leaves, `Over`
+-- ANY SIZE, ONE GROUND, SCOPE 4.16: one statement about chunks of two sizes as the code leaves them. `AsMade` says what the code leaves, `Over`
 -- what boulders and trees may lay over a cell. `Theorem` proves it. Assumes nothing.
 use Rattle.std.specs.Prelude.{◌≡◌, List, ℕ, ◌+◌, ◌*◌, ◌≤◌, ◌<◌, ℤ, pos, ◌+ℤ◌, ◌*ℤ◌, get_or}
 use Rattle.config.specs.declared.TerrainConfig.{TerrainConfig}

@@ -1,4 +1,4 @@
--- THE TAKEOVER THEOREM, SCOPE 9.5: one statement over the whole list of calls as they were made, and every cut. `Contracts` says what a list as it
+-- THE TAKEOVER THEOREM, SCOPE 9.5: one statement over the whole list of calls as they were made, and every cut. `AsMade` says what a list as it
 -- was made is, a first tablet and a second. In the crate `takeover_model`, `Statement` says what is compared and what a cut is, and `Model` is the
 -- reference model. `Theorem` proves it. Assumes nothing.
 use Rattle.std.specs.Prelude.{◌≡◌, List, ℕ, ◌+◌, ◌≤◌, ◌<◌, length, take}
