@@ -2,12 +2,10 @@ use Prim.Native.Nat.{◌*◌, ◌≤◌, ◌<◌}
 use native.Mathlib.Omega.{arith}
 use native.Mathlib.Nat.{mul-le-mul}
 use Rattle.grid.specs.Grid.{digits, index_lt, cube_most}
-use borrow.Author.Rules.{rules}
-use Rattle.grid.proofs.cell_index.Statement.{statement}
-use Rattle.grid.proofs.cell_index.Tie as tie
+use Rattle.grid.proofs.cell_index.Goals as goal
 
-mul-result : tie.Need-overflow-mul-result
-mul-result c =
+pub overflow_mul-result : goal.overflow_mul-result
+overflow_mul-result c =
     let p = c.requires in
     let s = c.args.size in
     let x = c.args.x in
@@ -22,8 +20,8 @@ mul-result c =
     let k = cube_most s h in
     omega arith
 
-add-result : tie.Need-overflow-add-result
-add-result c =
+pub overflow_add-result : goal.overflow_add-result
+overflow_add-result c =
     let p = c.requires in
     let s = c.args.size in
     let x = c.args.x in
@@ -38,8 +36,8 @@ add-result c =
     let k = cube_most s h in
     omega arith
 
-mul-result-2 : tie.Need-overflow-mul-result-2
-mul-result-2 c =
+pub overflow_mul-result-2 : goal.overflow_mul-result-2
+overflow_mul-result-2 c =
     let p = c.requires in
     let s = c.args.size in
     let x = c.args.x in
@@ -55,8 +53,8 @@ mul-result-2 c =
     let g : z * s ≤ 64 * 64 = (let hz64 : z ≤ 64 = omega arith in mul-le-mul hz64 h) in
     omega arith
 
-mul-result-3 : tie.Need-overflow-mul-result-3
-mul-result-3 c =
+pub overflow_mul-result-3 : goal.overflow_mul-result-3
+overflow_mul-result-3 c =
     let p = c.requires in
     let s = c.args.size in
     let x = c.args.x in
@@ -71,8 +69,8 @@ mul-result-3 c =
     let k = cube_most s h in
     omega arith
 
-add-result-2 : tie.Need-overflow-add-result-2
-add-result-2 c =
+pub overflow_add-result-2 : goal.overflow_add-result-2
+overflow_add-result-2 c =
     let p = c.requires in
     let s = c.args.size in
     let x = c.args.x in
@@ -86,10 +84,3 @@ add-result-2 c =
     let l = index_lt s x y z hx hy hz in
     let k = cube_most s h in
     omega arith
-
-returns : tie.Need-returns
-returns c = search rules
-
-pub cell_index_spec : {M : Type 1} → statement M
-cell_index_spec =
-    tie.close (tie.spec mul-result add-result mul-result-2 mul-result-3 add-result-2 returns)
