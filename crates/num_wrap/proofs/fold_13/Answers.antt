@@ -4,13 +4,9 @@ use lib.Bits.{bit_xor}
 use lib.Signed.{shr_z}
 use Rattle.num_wrap.specs.Wrap.{fold_w}
 use mir.ValLaws.{to_z-of_z}
-use Rattle.num_wrap.proofs.fold_13.Statement.{statement}
-use Rattle.num_wrap.proofs.fold_13.Tie as tie
+use Rattle.num_wrap.proofs.fold_13.Goals as goal
 
-returns : tie.Need-returns
+pub returns : goal.returns
 unfolding fold_w
 returns c =
     ap (λ (u : ℤ). to_z w32 (bit_xor (of_z w32 c.args.h) (of_z w32 (shr_z u (2 ^ 13))))) (to_z-of_z w32 c.args.h c.ranges.h)
-
-pub fold_13_spec : {M : Type 1} → statement M
-fold_13_spec = tie.close (tie.spec returns)
