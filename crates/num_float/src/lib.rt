@@ -1,5 +1,7 @@
 // Absolute value, clamp, max and the conversions between f32 and i32, for every f32: NaN, infinities, both zeros and
 // subnormals too.
+#![tactic(auto)]
+
 ghost use Rattle.std.specs.Prelude.{◌≡◌};
 ghost use Rattle.std.specs.Float.{binary32};
 ghost use Rattle.std.specs.Float.Ieee.{of_int};

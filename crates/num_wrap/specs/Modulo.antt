@@ -1,6 +1,8 @@
 -- What wrapping and the right shift (SCOPE 3.3) mean over the integers: laws of Wrap. Assumes nothing.
-use Rattle.std.specs.Prelude.{◌≡◌, ℕ, zero, suc, ◌+◌, ◌-◌, ◌*◌, ◌/◌, ◌%◌, ◌^◌, ◌<◌, ◌≤◌, Bool, true, false, ℤ, pos, negsuc, ◌+ℤ◌, ◌*ℤ◌, neg_ℤ, FitsSigned, nat_lt, refl}
-use Rattle.std.proofs.Common.{sym, ap, ap₂, ◌∙◌, subst, add_comm, div-add-mod', mod-eq_of_lt, mod-lt, mul-add, mul_comm, suc-mul, zero-mul, arith, pow_pos, le-ltb, ltb-true, ltb-false}
+use Rattle.std.specs.Prelude.{◌≡◌, ℕ, zero, suc, ◌+◌, ◌-◌, ◌*◌, ◌/◌, ◌%◌, ◌^◌, ◌<◌, ◌≤◌, Bool, true, false, ℤ, pos, negsuc, ◌+ℤ◌, ◌*ℤ◌, neg_ℤ}
+use Rattle.std.specs.Prelude.{FitsSigned, nat_lt, refl}
+use Rattle.std.proofs.Common.{sym, ap, ap₂, ◌∙◌, subst, add_comm, div-add-mod', mod-eq_of_lt, mod-lt, mul-add, mul_comm, suc-mul, zero-mul, arith}
+use Rattle.std.proofs.Common.{pow_pos, le-ltb, ltb-true, ltb-false}
 use Rattle.std.proofs.Math.Nat.{add-mul-mod_self_right}
 use Rattle.std.proofs.Math.IntN.{sub_ℕ}
 use Rattle.std.specs.Int.Signed.{shr_z}
@@ -102,22 +104,26 @@ module _ (t : ℕ) (h : t < 2 ^ 32) where
                 sym (ap (λ (u : ℤ). negsuc (2 ^ 32 - suc t) +ℤ u) (minus_times q (2 ^ 32)) ∙ deeper (2 ^ 32 - suc t) (q * 2 ^ 32) n (omega arith));
           })
 
-pub wrap_mod : (z : ℤ) → Wrapped z (wrap_w z)
-unfolding wrap_w mod_z
-wrap_mod (pos n) = turned_up (n % 2 ^ 32) (mod-lt n (pow_pos 32)) n (n / 2 ^ 32) (sym (div-add-mod' n (2 ^ 32)))
-wrap_mod (negsuc n) =
+turned : (z : ℤ) → Wrapped z (to_z w32 (mod_z z (2 ^ 32)))
+unfolding mod_z
+turned (pos n) = turned_up (n % 2 ^ 32) (mod-lt n (pow_pos 32)) n (n / 2 ^ 32) (sym (div-add-mod' n (2 ^ 32)))
+turned (negsuc n) =
     let s = mod-lt n (pow_pos 32) in
     let d = div-add-mod' n (2 ^ 32) in
     turned_down (2 ^ 32 - suc (n % 2 ^ 32)) (omega arith) n (n / 2 ^ 32) (omega arith)
 
+pub wrap_mod : (z : ℤ) → Wrapped z (wrap_w z)
+unfolding wrap_w
+wrap_mod z = turned z
+
 -- the wrapping product and sum are the i32 that is a * b, or a + b, modulo 2 ^ 32
 pub mul_w_mod : (a b : ℤ) → Wrapped (a *ℤ b) (mul_w a b)
-unfolding mul_w
-mul_w_mod a b = wrap_mod (a *ℤ b)
+unfolding mul_w wrap_w
+mul_w_mod a b = turned (a *ℤ b)
 
 pub add_w_mod : (a b : ℤ) → Wrapped (a +ℤ b) (add_w a b)
-unfolding add_w
-add_w_mod a b = wrap_mod (a +ℤ b)
+unfolding add_w wrap_w
+add_w_mod a b = turned (a +ℤ b)
 
 -- ---- the same from the bits: only the lowest 32 bits of the operands' bits count
 same_rest : (a b j k : ℕ) → a + j * 2 ^ 32 ≡ b + k * 2 ^ 32 → a % 2 ^ 32 ≡ b % 2 ^ 32

@@ -35,7 +35,8 @@ use Rattle.session_calls.specs.declared.Reopened.{Reopened}
 use Rattle.session_calls.specs.declared.Reopened.TheVariants.{Opened}
 use Rattle.session_calls.specs.declared.Reply.{Reply}
 use Rattle.takeover_model.specs.Model.{Call, Model, Ran, model_size, cells_with, model_cells, model_fresh, left, asked_by, Writer, older_edit}
-use Rattle.takeover_model.specs.Model.{model_edit, model_relay, model_undo, model_restore, saved_as, room_for_names, model_checkpoint, step_by, run_by, replies_by}
+use Rattle.takeover_model.specs.Model.{model_edit, model_relay, model_undo, model_restore, saved_as, room_for_names, model_checkpoint, step_by}
+use Rattle.takeover_model.specs.Model.{run_by, replies_by}
 use Rattle.takeover_model.specs.Model as M
 use Rattle.takeover_model.specs.Asks.{set_same, column_same, batch_same}
 use Rattle.takeover_model.specs.Statement.{later_lines}
