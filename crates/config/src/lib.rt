@@ -1,4 +1,6 @@
 // The settings of the ground, the place of a chunk and their limits; limits and refusal numbers by name.
+#![tactic(auto)]
+
 ghost use Rattle.std.specs.Prelude.{◌≡◌, true, ◌<◌};
 ghost use Rattle.config.specs.Limits.{within, size_ok, place_ok, places_ok, limit_refusal, config_header, Narrow};
 ghost use Rattle.std.specs.Int.Signed.{mag};

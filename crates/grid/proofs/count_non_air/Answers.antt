@@ -1,10 +1,9 @@
 use mathlib.Core.Path.{◌≡◌, sym, ap, ◌∙◌}
-use Prim.Native.Nat.{ℕ, ◌+◌, ◌-◌, ◌≤◌, ◌<◌}
+use Prim.Native.Nat.{ℕ, ◌+◌, ◌≤◌, ◌<◌}
 use native.Mathlib.Omega.{arith}
 use native.Mathlib.Numerals.{add-one}
 use mathlib.Core.Bool.{Bool, cond}
 use mathlib.Core.List.{[], ◌∷◌}
-use mathlib.Core.Logic.{⊎_elim}
 use lib.Dec.{eqb}
 use lib.ListN.{length, get_or}
 use borrow.Author.Tests.{eq-eqb, ne_eqb}
@@ -19,39 +18,6 @@ loop-i-init c = (omega arith, sym count_none, omega arith)
 
 pub offset_bounds-cells-i : goal.offset_bounds-cells-i
 offset_bounds-cells-i c = omega (arith, c.well_formed)
-
-pub bounds-cells-i : goal.bounds-cells-i
-bounds-cells-i c = omega arith
-
-pub overflow_add-n : goal.overflow_add-n
-overflow_add-n c =
-    let a = c.args in
-    let l = c.loop-i in
-    let cs = a.cells.now in
-    let i0 : l.i ≤ length cs = l.invariant.0 in
-    let n0 : l.n ≤ l.i = l.invariant.2 in
-    let lt : l.i < length cs = c.loop-i-test.true in
-    omega arith
-
-pub overflow_add-i : goal.overflow_add-i
-overflow_add-i c =
-    let a = c.args in
-    let l = c.loop-i in
-    let cs = a.cells.now in
-    let i0 : l.i ≤ length cs = l.invariant.0 in
-    let n0 : l.n ≤ l.i = l.invariant.2 in
-    let lt : l.i < length cs = c.loop-i-test.true in
-    omega arith
-
-pub loop-i-smaller : goal.loop-i-smaller
-loop-i-smaller c =
-    let a = c.args in
-    let l = c.loop-i in
-    let cs = a.cells.now in
-    let i0 : l.i ≤ length cs = l.invariant.0 in
-    let n0 : l.n ≤ l.i = l.invariant.2 in
-    let lt : l.i < length cs = c.loop-i-test.true in
-    omega arith
 
 pub loop-i-preserved : goal.loop-i-preserved
 loop-i-preserved c =
