@@ -57,8 +57,8 @@ build_openmap() {
         local log
         command -v rt > /dev/null || missing "no rt: it builds the program, unless OPENMAP names one"
         log=$(log_of openmap) || exit 2
-        (cd "$root" && rt check openmap) > "$log" 2>&1 || failed 'rt check openmap' "$log"
-        OPENMAP=$root/target/bin/openmap
+        (cd "$root" && rt run openmap < /dev/null) > "$log" 2>&1 || failed 'rt run openmap' "$log"
+        OPENMAP=$root/crates/openmap/out/openmap
     fi
     [ -x "$OPENMAP" ] || missing "no program '$OPENMAP'"
     OPENMAP=$(realpath "$OPENMAP")

@@ -9,7 +9,6 @@
  *     good for that many; with length 0 it may be NULL. A record lent by pointer is not NULL.
  *   - What a call may write overlaps with nothing else that the same call is lent.
  *   - Between the calls of a session nobody else writes to its cells, its record, or the journal's used bytes.
- *   - A record is lent with its own cells and journal. Of a mix-up only another first line is always noticed (30).
  *
  * An answer has a number: 0, or why the call was refused (enum pl_number). A refused call changes nothing: record
  * and buffers are as they were, and the other numbers of the answer are 0, but for the line of 11 and 12. Where
@@ -46,7 +45,7 @@ enum pl_number {
     PL_LATER_LINE = 12,     /* a line behind the first that is malformed, or not allowed there */
     PL_TALLY_LISTS = 13,    /* a list of the tally has fewer places than there are ids */
     PL_RECORD = 21,         /* an invalid record, or a count that does not belong to these cells */
-    PL_USED_BYTES = 22,     /* undo, checkpoint, restore: behind the first line the used bytes are not this record's */
+    PL_USED_BYTES = 22,     /* undo, checkpoint, restore: the used bytes are not this record's journal */
     PL_NOTHING_ACTIVE = 23, /* undo: nothing is active */
     PL_FULL = 24,           /* no space for the line, or an edit where 256 are active */
     PL_NAME = 25,           /* a name that is not 1 to 16 bytes, each of a to z or 0 to 9 */
@@ -54,7 +53,6 @@ enum pl_number {
     PL_MANY_NAMES = 27,     /* checkpoint: a seventeenth name */
     PL_PLANES_SIZE = 28,    /* planes: size not 1, 2, 4, 8, 16, 32 or 64 */
     PL_PLANES_BYTES = 29,   /* planes: bytes not 2 * size * size * size long */
-    PL_OTHER_MAP = 30,      /* a call with a record: the used bytes do not begin with its first line */
     PL_FACE = 99            /* this interface alone: a number that names no face */
 };
 
@@ -155,12 +153,6 @@ typedef char pl_start_layout[sizeof(pl_start) == 88 && offsetof(pl_start, number
  * size * z). A journal buffer has at most 32,768 bytes; an accepted call with a line writes behind the used bytes
  * alone.
  *
- * Every call that is lent a record tests, straight after 21, that the used bytes begin with the first line that the
- * record's settings and place write, whole and with its LF. Where they do not, the file is another map's: 30, also for
- * an edit that would be idle or lies outside. Maps of the same settings and place have the same first line; a host
- * keeps their files apart itself. Of these calls only undo, checkpoint and restore read what follows it: 22 if that is
- * not whole lines, has a bad one, or makes another number of edits active than the record has.
- *
  * A set, column or batch after which every cell is the same is idle: it is accepted with its usual numbers, changes
  * nothing, has no line and does not become active, also where 256 edits are active or the journal is full. The call as
  * a whole decides: a batch that sets a cell and sets it back is idle, and so is a column of height 0. Older journals
@@ -181,39 +173,39 @@ pl_start pl_session_fresh(pl_config config, pl_pos pos, uint16_t *cells, size_t 
 
 /* Sets one cell, appends a line, and tells the id that the cell held before and how many cells it altered, 0 or 1.
  * Where the cell holds this id already it tells the id and 0, changes nothing and has no line. Refused: 21 (also where
- * the edit would move the count off its limits), 30, 7, 24 (not where it is idle). */
+ * the edit would move the count off its limits), 7, 24 (not where it is idle). */
 pl_reply pl_session_set(pl_session *session, uint16_t *cells, size_t cells_len, uint8_t *journal,
                         size_t journal_len, size_t x, size_t y, size_t z, uint16_t id);
 
 /* Fills a column from y 0 up to a height, which is clipped to the size, appends a line, and tells how many cells it
  * altered. Where that is 0, as with height 0 or with x or z outside, it is accepted, changes nothing and has no line.
- * Refused: 21 (also where the edit would move the count off its limits), 30, 24 (not where it is idle). */
+ * Refused: 21 (also where the edit would move the count off its limits), 24 (not where it is idle). */
 pl_reply pl_session_fill_column(pl_session *session, uint16_t *cells, size_t cells_len, uint8_t *journal,
                                 size_t journal_len, size_t x, size_t z, size_t height, uint16_t id);
 
 /* Sets the cells of groups x, y, z, id in their order, appends one line for all, and tells how many groups were inside
  * and how many cells it altered. edits_len counts numbers, four to a group; one to three left over are ignored, an id
  * counts modulo 65,536, a group outside is skipped. Where it altered none, or no group is inside, it is accepted,
- * changes nothing and has no line. Refused: 21 (also where the edit would move the count off its limits), 30, 8, 24
- * (not where it is idle). */
+ * changes nothing and has no line. Refused: 21 (also where the edit would move the count off its limits), 8, 24 (not
+ * where it is idle). */
 pl_reply pl_session_set_blocks(pl_session *session, uint16_t *cells, size_t cells_len, uint8_t *journal,
                                size_t journal_len, const uint32_t *edits, size_t edits_len);
 
 /* Takes the last active edit back: the cells are laid anew without it, and a line is appended. It tells how many cells
  * it altered. In a map that only these calls write that is never 0, but for an idle edit that an older journal has a
- * line of: its undo is accepted and alters none. Refused: 21, 30, 22, 23, 24 (fewer than 2 bytes left). */
+ * line of: its undo is accepted and alters none. Refused: 21, 22, 23, 24 (fewer than 2 bytes left). */
 pl_reply pl_session_undo(pl_session *session, uint16_t *cells, size_t cells_len, uint8_t *journal,
                          size_t journal_len);
 
 /* Remembers the active edits under a name, or moves the checkpoint of that name, and appends a line. It is lent no
- * cells, and tells nothing. Refused: 21 (without the cells' length), 30, 25, 22, 27, 24 (fewer than name_len + 3 bytes
+ * cells, and tells nothing. Refused: 21 (without the cells' length), 25, 22, 27, 24 (fewer than name_len + 3 bytes
  * left). */
 pl_reply pl_session_checkpoint(pl_session *session, uint8_t *journal, size_t journal_len, const uint8_t *name,
                                size_t name_len);
 
 /* Makes the edits that a checkpoint remembers the active ones: the cells are laid anew with them, and a line is
  * appended. It tells how many cells it altered, which may be 0. Every checkpoint stays, also one that was made later.
- * Refused: 21, 30, 25, 22, 26, 24 (fewer than name_len + 3 bytes left). */
+ * Refused: 21, 25, 22, 26, 24 (fewer than name_len + 3 bytes left). */
 pl_reply pl_session_restore(pl_session *session, uint16_t *cells, size_t cells_len, uint8_t *journal,
                             size_t journal_len, const uint8_t *name, size_t name_len);
 

@@ -1,6 +1,6 @@
-/* An example host: a fresh map, presses, a cut at every byte, and the next tablet takes over; two maps whose files are
- * mixed up (mixed_up); and a shelf copy of a chunk, written and restored (shelf_copy, shelf_restore). It is C99 and
- * C++11. It exits with 1, and says where, if an answer or a map is not what it must be. */
+/* An example host: a fresh map, presses, a cut at every byte, and the next tablet takes over; and a shelf copy of
+ * a chunk, written and restored (shelf_copy, shelf_restore). It is C99 and C++11.
+ * It exits with 1, and says where, if an answer or a map is not what it must be. */
 #include "perillahinge.h"
 #include <stdio.h>
 #include <stdlib.h>
@@ -206,9 +206,10 @@ static void refusals(const tablet *last) {
     CHECK(same_map(&t, last) && memcmp(t.journal, last->journal, JOURNAL) == 0);
 
     t.journal[0] = 'H';
-    CHECK(refused(pl_session_undo(s, t.cells, CELLS, t.journal, JOURNAL), PL_OTHER_MAP));
-    CHECK(refused(checkpoint(s, t.journal, JOURNAL, "walls"), PL_OTHER_MAP));
-    CHECK(refused(restore(s, t.cells, CELLS, t.journal, JOURNAL, "Roof"), PL_OTHER_MAP));
+    CHECK(refused(pl_session_undo(s, t.cells, CELLS, t.journal, JOURNAL), PL_USED_BYTES));
+    CHECK(refused(checkpoint(s, t.journal, JOURNAL, "walls"), PL_USED_BYTES));
+    CHECK(refused(restore(s, t.cells, CELLS, t.journal, JOURNAL, "roof"), PL_USED_BYTES));
+    CHECK(refused(restore(s, t.cells, CELLS, t.journal, JOURNAL, "Roof"), PL_NAME));
     const pl_start start = pl_session_reopen(t.cells, CELLS, t.journal, JOURNAL, s->used);
     CHECK(start.number == PL_FIRST_LINE && start.line == 1 && start.session.config.chunk_size == 0);
     t.session = start.session;
@@ -410,159 +411,6 @@ static void many_names(void) {
     CHECK(refused(restore(&s, cells, 8, journal, s.used + 3, "a"), PL_FULL));
     CHECK(tells(restore(&s, cells, 8, journal, s.used + 4, "a"), 0, 0, 1) && cells[0] == 354);
     CHECK(s.active == PL_ACTIVE_MOST - 1);
-}
-
-/* Two children's maps, at two places of one seed: the first line and one press. Both files have 34 bytes; the first
- * lines are the same up to the LF of the shorter one, which has 23. */
-static const char *const children[2] = {"G\t0\t4096\t256\t2\t0\t128\t1\nS\t0\t0\t0\t10\n",
-                                        "G\t0\t4096\t256\t2\t0\t128\t12\nS\t0\t0\t0\t9\n"};
-enum { CHILD_LINE = 23, CHILD_FILE = 34 };
-
-/* A child's map with its press: eight cells of water (5), then (0, 0, 0) holds the id. */
-static small child(int32_t cz, uint16_t id, const char *file) {
-    const pl_config config = {0, 4096, 256, 2};
-    const pl_pos pos = {0, 128, cz};
-    small t;
-    memset(&t, 0, sizeof t);
-    t.session = pl_session_fresh(config, pos, t.cells, 8, t.journal, JOURNAL).session;
-    CHECK(tells(pl_session_set(&t.session, t.cells, 8, t.journal, JOURNAL, 0, 0, 0, id), 0, 5, 1));
-    CHECK(strlen(file) == CHILD_FILE && t.session.used == CHILD_FILE && memcmp(t.journal, file, CHILD_FILE) == 0);
-    return t;
-}
-
-/* Twelve presses on a child's map, and what each answers on the first child's with its own file. */
-enum { LENT = 12 };
-static const pl_reply with_own_file[LENT] = {
-    {PL_OK, 0, 0, 10, 1},          /* a set */
-    {PL_OK, 0, 0, 5, 0},           /* an idle one */
-    {PL_OUTSIDE, 0, 0, 0, 0},      /* one outside */
-    {PL_OK, 0, 0, 0, 2},           /* a column */
-    {PL_OK, 0, 0, 0, 0},           /* one outside */
-    {PL_OK, 0, 2, 0, 2},           /* a batch */
-    {PL_MANY_GROUPS, 0, 0, 0, 0},  /* one of 17 groups */
-    {PL_OK, 0, 0, 0, 1},           /* an undo */
-    {PL_OK, 0, 0, 0, 0},           /* a checkpoint */
-    {PL_NAME, 0, 0, 0, 0},         /* one with a bad name */
-    {PL_UNKNOWN_NAME, 0, 0, 0, 0}, /* a restore of a name that is not there */
-    {PL_NAME, 0, 0, 0, 0},         /* one with a bad name */
-};
-
-/* The k-th of them, with n bytes of a journal lent. */
-static pl_reply lend(small *t, uint8_t *journal, size_t n, int k) {
-    static const uint32_t two[8] = {0, 0, 0, 7, 1, 1, 1, 7}, many[68] = {0};
-    pl_session *s = &t->session;
-    switch (k) {
-    case 0:
-        return pl_session_set(s, t->cells, 8, journal, n, 0, 0, 0, 7);
-    case 1:
-        return pl_session_set(s, t->cells, 8, journal, n, 1, 1, 1, 5);
-    case 2:
-        return pl_session_set(s, t->cells, 8, journal, n, 2, 0, 0, 7);
-    case 3:
-        return pl_session_fill_column(s, t->cells, 8, journal, n, 0, 0, 2, 7);
-    case 4:
-        return pl_session_fill_column(s, t->cells, 8, journal, n, 2, 0, 2, 7);
-    case 5:
-        return pl_session_set_blocks(s, t->cells, 8, journal, n, two, 8);
-    case 6:
-        return pl_session_set_blocks(s, t->cells, 8, journal, n, many, 68);
-    case 7:
-        return pl_session_undo(s, t->cells, 8, journal, n);
-    case 8:
-        return checkpoint(s, journal, n, "walls");
-    case 9:
-        return checkpoint(s, journal, n, "Walls");
-    case 10:
-        return restore(s, t->cells, 8, journal, n, "walls");
-    default:
-        return restore(s, t->cells, 8, journal, n, "Walls");
-    }
-}
-
-/* Every press with this journal, n bytes of it lent, is refused with this number; record, cells and journal are as they
- * were. */
-static void all_refused(small *t, uint8_t *journal, size_t n, uint32_t number) {
-    const small before = *t;
-    uint8_t bytes[JOURNAL];
-    memcpy(bytes, journal, JOURNAL);
-    for (int k = 0; k < LENT; k++) {
-        CHECK(refused(lend(t, journal, n, k), number));
-        CHECK(same_session(&t->session, &before.session) && memcmp(t->cells, before.cells, sizeof t->cells) == 0);
-        CHECK(memcmp(journal, bytes, JOURNAL) == 0 && memcmp(t->journal, before.journal, JOURNAL) == 0);
-    }
-}
-
-/* Its own file, but the used bytes end inside the first line, or a byte of it is another: 30. And a record of which one
- * number is not the line's. */
-static void other_first_line(void) {
-    const small own = child(1, 10, children[0]);
-    for (size_t i = 0; i < CHILD_LINE; i++) {
-        small cut = own, changed = own;
-        cut.session.used = i;
-        all_refused(&cut, cut.journal, JOURNAL, PL_OTHER_MAP);
-        changed.journal[i] ^= 1;
-        all_refused(&changed, changed.journal, JOURNAL, PL_OTHER_MAP);
-    }
-    small t[7] = {own, own, own, own, own, own, own};
-    t[0].session.config.seed = 1;
-    t[1].session.config.sea_level = 4095;
-    t[2].session.config.world_height_blocks = 255;
-    t[3].session.pos.cx = 1;
-    t[4].session.pos.cy = -128;
-    t[5].session.pos.cz = 0;
-    for (int k = 0; k < 6; k++)
-        all_refused(&t[k], t[k].journal, JOURNAL, PL_OTHER_MAP);
-    /* Eight cells are not those of size 3 (21); a checkpoint is lent none. */
-    t[6].session.config.chunk_size = 3;
-    CHECK(refused(pl_session_undo(&t[6].session, t[6].cells, 8, t[6].journal, JOURNAL), PL_RECORD));
-    CHECK(refused(checkpoint(&t[6].session, t[6].journal, JOURNAL, "walls"), PL_OTHER_MAP));
-}
-
-/* The first line is right, and what follows is not the record's: undo, checkpoint and restore answer 22, a bad name 25
- * before it. An edit does not read it. */
-static void used_bytes(void) {
-    small t[4];
-    for (int k = 0; k < 4; k++)
-        t[k] = child(1, 10, children[0]);
-    t[0].session.used = CHILD_LINE;     /* no edit is active in the journal, one in the record */
-    t[1].session.active = 0;            /* and the other way round */
-    t[2].session.used = CHILD_FILE - 1; /* the last line is not whole */
-    t[3].journal[CHILD_LINE] = 'T';     /* no line begins so */
-    for (int k = 0; k < 4; k++) {
-        pl_session *s = &t[k].session;
-        uint16_t *cells = t[k].cells;
-        uint8_t *journal = t[k].journal;
-        CHECK(refused(pl_session_undo(s, cells, 8, journal, JOURNAL), PL_USED_BYTES));
-        CHECK(refused(checkpoint(s, journal, JOURNAL, "walls"), PL_USED_BYTES));
-        CHECK(refused(checkpoint(s, journal, JOURNAL, "Walls"), PL_NAME));
-        CHECK(refused(restore(s, cells, 8, journal, JOURNAL, "walls"), PL_USED_BYTES));
-        CHECK(refused(restore(s, cells, 8, journal, JOURNAL, "Walls"), PL_NAME));
-        CHECK(tells(pl_session_set(s, cells, 8, journal, JOURNAL, 0, 0, 0, 7), 0, 10, 1));
-    }
-}
-
-/* A host lends the file of the other child: each press is refused with 30, before its other causes but 21, and nothing
- * is lost. With the right file it answers as ever. */
-static void mixed_up(void) {
-    small first = child(1, 10, children[0]), second = child(12, 9, children[1]);
-    all_refused(&first, second.journal, JOURNAL, PL_OTHER_MAP);
-    all_refused(&second, first.journal, JOURNAL, PL_OTHER_MAP);
-    /* Without space for a line. */
-    all_refused(&first, second.journal, CHILD_FILE, PL_OTHER_MAP);
-    for (int k = 0; k < LENT; k++) {
-        const pl_reply own = with_own_file[k];
-        small t = first;
-        const pl_reply r = lend(&t, t.journal, JOURNAL, k);
-        CHECK(own.number ? refused(r, own.number) : tells(r, own.written, own.previous, own.altered));
-    }
-    /* A record that is not valid either, and a count that the set would move below 0. */
-    small t = first;
-    t.session.count = 9;
-    all_refused(&t, second.journal, JOURNAL, PL_RECORD);
-    t.session.count = 0;
-    CHECK(refused(pl_session_set(&t.session, t.cells, 8, second.journal, JOURNAL, 0, 0, 0, 0), PL_RECORD));
-    other_first_line();
-    used_bytes();
 }
 
 /* In a stored journal a name that no line before has, a bad one and a seventeenth are each 12, with their line. */
@@ -912,7 +760,6 @@ int main(void) {
     older();
     walls_and_roof();
     many_names();
-    mixed_up();
     stored_names();
     tallies();
     seeds();

@@ -119,7 +119,8 @@ edit_input input size count v c d k i h =
     ap (λ (n : ℕ). cells_outcome (refused_with n) c) (i ∙ sym e) ∙ sym (is_refused _ _ _ (λ q. h (i ∙ sym e ∙ q)))
 
 module _ (input size count : ℕ) (v c d : List ℕ) (p q : ℕ) (none : input ≡ 0) (moves : non_air_count d + p ≡ non_air_count c + q) where
-  second : refusal (passed input ∷ passed (count_refusal size count (non_air_count c) (non_air_count d)) ∷ []) ≡ refusal (passed (count_refusal size count p q) ∷ [])
+  second : refusal (passed input ∷ passed (count_refusal size count (non_air_count c) (non_air_count d)) ∷ [])
+      ≡ refusal (passed (count_refusal size count p q) ∷ [])
   second =
       passed_on input (passed (count_refusal size count (non_air_count c) (non_air_count d)) ∷ []) none
       ∙ ap (λ (k : ℕ). refusal (passed k ∷ [])) (same_refusal size count (non_air_count c) (non_air_count d) p q moves)

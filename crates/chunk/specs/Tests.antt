@@ -49,7 +49,8 @@ module _ (size count before after : ℕ) where
 
 -- ---- how a test after those of the chunk answers
 
-pub then_chunk : (size n : ℕ) (b : Bool) (k : ℕ) → (chunk_refusal size n ≡ 0 → ⊥) → refusal (passed (chunk_refusal size n) ∷ must b k ∷ []) ≡ chunk_refusal size n
+pub then_chunk : (size n : ℕ) (b : Bool) (k : ℕ)
+    → (chunk_refusal size n ≡ 0 → ⊥) → refusal (passed (chunk_refusal size n) ∷ must b k ∷ []) ≡ chunk_refusal size n
 then_chunk size n b k e = passed_stop (chunk_refusal size n) (must b k ∷ []) e
 
 pub then_stop : (size n : ℕ) (b : Bool) (k : ℕ) → chunk_refusal size n ≡ 0 → b ≡ false → refusal (passed (chunk_refusal size n) ∷ must b k ∷ []) ≡ k

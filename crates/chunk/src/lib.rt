@@ -1,5 +1,7 @@
 // The cells of a chunk, borrowed: what its calls answer, the tests that they begin with, and columns of
 // cells. Every test answers 0 or a refusal number.
+#![tactic(auto)]
+
 ghost use Rattle.std.specs.Prelude.{◌≡◌, ◌≤◌};
 ghost use Rattle.grid.specs.Cube.{Cube};
 ghost use Rattle.grid.specs.Differing.{differing};

@@ -6,7 +6,7 @@ ghost use Rattle.chunk_border.specs.Border.{border_source, border_of, border_ref
 use config::refusals::{LENGTH, OK};
 
 // The six sides of a chunk, by the names of the Rust original.
-#[derive(Drop)]
+#[derive(Clone, Copy)]
 pub enum Face {
     PosX,
     NegX,

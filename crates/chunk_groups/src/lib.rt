@@ -11,7 +11,7 @@ ghost use Rattle.chunk_groups.specs.Net.{Net};
 use config::bounds::IDS;
 
 // One group of a batch.
-#[derive(Drop)]
+#[derive(Clone, Copy)]
 pub struct BlockEdit {
     pub x: usize,
     pub y: usize,

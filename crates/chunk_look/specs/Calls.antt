@@ -12,7 +12,8 @@ chunk_get_does size c x y z = unless_refused (cell_refusal size (length c) x y z
 
 -- whether it is air
 unfoldable pub chunk_is_air_does : ℕ → List ℕ → ℕ → ℕ → ℕ → Answer
-chunk_is_air_does size c x y z = unless_refused (cell_refusal size (length c) x y z) (accepted (yes (eqb (get_or c (cell_index size x y z) 0) 0) ∷ [])) refused_with
+chunk_is_air_does size c x y z =
+    unless_refused (cell_refusal size (length c) x y z) (accepted (yes (eqb (get_or c (cell_index size x y z) 0) 0) ∷ [])) refused_with
 
 -- whether all are air, and whether none is
 unfoldable pub chunk_is_empty_does : ℕ → List ℕ → Answer

@@ -1,6 +1,7 @@
 -- What the ascending lists of ids and counts hold, and lists that have them in their first places (SCOPE 5.9). Assumes nothing.
 use Rattle.std.specs.Prelude.{◌≡◌, refl, ℕ, zero, suc, ◌+◌, ◌≤◌, ◌<◌, Bool, true, false, ◌&&◌, List, [], ◌∷◌, ◌++◌, map, ltb, length, get_or, take, drop}
-use Rattle.std.proofs.Common.{sym, ap, ap₂, ◌∙◌, subst, arith, zero-add, ⊎_elim, length-append, take-append-drop, drop_at, get_or-take, length-take-le, ext_get_or, lt-ltb, ltb-true, ltb-false}
+use Rattle.std.proofs.Common.{sym, ap, ap₂, ◌∙◌, subst, arith, zero-add, ⊎_elim, length-append, take-append-drop, drop_at, get_or-take}
+use Rattle.std.proofs.Common.{length-take-le, ext_get_or, lt-ltb, ltb-true, ltb-false}
 use Rattle.std.proofs.lemmas.List.{length-map, get_or_at}
 use Rattle.std.proofs.Math.ListN.{get_or-append}
 use Rattle.std.proofs.lemmas.List.Edits.{sets, sets-eq}
@@ -82,7 +83,8 @@ pub listed_ids : (c : List ℕ) (i : ℕ) → i < length (present_ids c) → Own
 unfolding present_ids
 listed_ids c i h = own 65536 (id_count c) i h
 
-pub listed_once : (c : List ℕ) (i j : ℕ) → i < length (present_ids c) → j < length (present_ids c) → get_or (present_ids c) i 0 ≡ get_or (present_ids c) j 0 → i ≡ j
+pub listed_once : (c : List ℕ) (i j : ℕ) → i < length (present_ids c) → j < length (present_ids c)
+    → get_or (present_ids c) i 0 ≡ get_or (present_ids c) j 0 → i ≡ j
 unfolding present_ids
 listed_once c = once 65536 (id_count c)
 

@@ -86,7 +86,8 @@ module _ (start i v : ℕ) (c : List ℕ) where
       (λ f. rw (e, f) (part_same l (ltb-true (i - start) 16384 f) m))
       (λ f. let o = ltb-false (i - start) 16384 f in rw (e, f) (part_other (λ k h q. omega arith))))
 
-part_put : (start size : ℕ) (g : Group) (c : List ℕ) → length c ≡ size * size * size → put_part start size g (part_of start c) ≡ part_of start (put_group size g c)
+part_put : (start size : ℕ) (g : Group) (c : List ℕ) → length c ≡ size * size * size
+    → put_part start size g (part_of start c) ≡ part_of start (put_group size g c)
 unfolding put_part
 part_put start size g c l =
     by_bool (group_inside size g)

@@ -109,4 +109,5 @@ surface_of c n sl max_height = surface (dominant_of (heights_of (weights_of c) n
 
 -- `get_biome`
 unfoldable pub biome_and_height : ℤ → ℤ → ℤ → ℤ → Float → Surface
-biome_and_height wx wz sea max_height seed_offset = surface (dominant_of (column_at wx wz sea seed_offset)) (height_of (column_at wx wz sea seed_offset) max_height)
+biome_and_height wx wz sea max_height seed_offset =
+    surface (dominant_of (column_at wx wz sea seed_offset)) (height_of (column_at wx wz sea seed_offset) max_height)

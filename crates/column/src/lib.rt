@@ -18,7 +18,7 @@ pub enum Biome {
 }
 
 // A column's climate, then its weights, then its heights: of desert, mountain, forest and plains.
-#[derive(Drop)]
+#[derive(Clone, Copy)]
 pub struct Column {
     pub temp: f32,
     pub moisture: f32,

@@ -92,7 +92,8 @@ module _ (n : ℕ) (xs : List Float) (floors : List ℕ) (eases : List Float) (d
   pub micro_row : (z : Float) (vals : List Float) → Summed (z *f nearest 8 100) 2 1152 n floors eases vals → Row n (scaled_row xs z (nearest 8 100) 2) vals
   unfolding scaled_at coords_of column_coord relief_x scaled_by freq_at nearest mul
   micro_row z =
-      unmoved z (nearest 8 100) 18 2 (omega arith) (λ (i : ℕ). below2 (λ (k : ℕ). coords_of xs (18 + k) i ≡ scaled_at xs (nearest 8 100) i *f freq_at k) refl refl)
+      unmoved z (nearest 8 100) 18 2 (omega arith)
+      (λ (i : ℕ). below2 (λ (k : ℕ). coords_of xs (18 + k) i ≡ scaled_at xs (nearest 8 100) i *f freq_at k) refl refl)
 
   pub ridge1_row : (z : Float) (vals : List Float) → Summed (z *f nearest 8 1000 +f nat 500) 4 1280 n floors eases vals
       → Row n (offset_row xs z (nearest 8 1000) (nat 500) (nat 500) 4) vals

@@ -3,8 +3,7 @@ use mathlib.Core.Path.{◌≡◌, sym, ap, ap₂, ◌∙◌, subst}
 use Prim.Native.Nat.{ℕ, zero, suc, ◌-◌, ◌*◌, ◌≤◌, ◌<◌}
 use native.Mathlib.Omega.{arith}
 use native.Mathlib.Nat.{mul-le-mul}
-use mathlib.Core.Bool.{Bool, true, false, not}
-use borrow.Author.Tests.{not-true, not-false}
+use mathlib.Core.Bool.{Bool, true, false}
 use lib.IntN.{ℤ, pos, negsuc, neg_ℤ, ◌+ℤ◌, ◌-ℤ◌, ◌*ℤ◌}
 use lib.Signed.{mag}
 use mir.Syntax.{w32, w64}
@@ -62,11 +61,11 @@ module _ (size c : ℤ) (b : Between 1 64 size) (h : mag c < 1099511627776) wher
   last_back = ap (again w64) last_raw ∙ to_z-of_z w64 (c *ℤ size +ℤ (size -ℤ pos 1)) last_fits
 
 -- what a test of a range, read back and turned round, says of the number itself
-pub range_no : (lo hi z : ℤ) {r : Bool} → SFits w64 z → r ≡ within lo (again w64 z) hi → not r ≡ true → within lo z hi ≡ false
-range_no lo hi z {r} f e n = ap (λ (u : ℤ). within lo u hi) (sym (to_z-of_z w64 z f)) ∙ sym e ∙ not-true r n
+pub range_no : (lo hi z : ℤ) {r : Bool} → SFits w64 z → r ≡ within lo (again w64 z) hi → r ≡ false → within lo z hi ≡ false
+range_no lo hi z {r} f e n = ap (λ (u : ℤ). within lo u hi) (sym (to_z-of_z w64 z f)) ∙ sym e ∙ n
 
-pub range_yes : (lo hi z : ℤ) {r : Bool} → SFits w64 z → r ≡ within lo (again w64 z) hi → not r ≡ false → within lo z hi ≡ true
-range_yes lo hi z {r} f e n = ap (λ (u : ℤ). within lo u hi) (sym (to_z-of_z w64 z f)) ∙ sym e ∙ not-false r n
+pub range_yes : (lo hi z : ℤ) {r : Bool} → SFits w64 z → r ≡ within lo (again w64 z) hi → r ≡ true → within lo z hi ≡ true
+range_yes lo hi z {r} f e n = ap (λ (u : ℤ). within lo u hi) (sym (to_z-of_z w64 z f)) ∙ sym e ∙ n
 
 pub widen_mag : (z : ℤ) → SFits w32 z → mag (widened z) < 1099511627776
 widen_mag z f = subst (λ (u : ℤ). mag u < 1099511627776) (sym (widen_same z f)) (let g = f.sfits in omega arith)

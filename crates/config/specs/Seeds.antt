@@ -1,9 +1,9 @@
 -- SCOPE 2.4: seeds went to 65,535 before. What those limits did not refuse for its seed is answered the same. Assumes nothing.
-use Rattle.std.specs.Prelude.{◌≡◌, refl, ℕ, ◌≤◌, ◌<◌, Bool, true, false, List, ◌∷◌, ℤ, pos}
+use Rattle.std.specs.Prelude.{◌≡◌, ℕ, ◌≤◌, ◌<◌, Bool, true, false, ℤ, pos}
 use Rattle.std.proofs.Common.{arith, le-leb}
 use Rattle.std.proofs.lemmas.Bool.{lt-leb}
-use Rattle.config.specs.Refusals.{Test, must, refusal}
-use Rattle.config.specs.Limits.{within, between, seed_most, size_ok, seed_ok, places_ok, header, first_broken, limit_refusal}
+use Rattle.config.specs.Refusals.{refusal}
+use Rattle.config.specs.Limits.{within, seed_most, size_ok, seed_ok, places_ok, header, first_broken, limit_refusal}
 use Rattle.config.specs.declared.Header.{Header}
 
 abbrev pub older_seed_most : ℕ
@@ -16,30 +16,13 @@ older_seed_ok z = within (pos 0) z (pos older_seed_most)
 unfoldable pub older_limit_refusal : Header → ℕ
 older_limit_refusal h = first_broken older_seed_ok h
 
-seed_taken : (n : ℕ) → n ≤ seed_most → seed_ok (pos n) ≡ true
+pub seed_taken : (n : ℕ) → n ≤ seed_most → seed_ok (pos n) ≡ true
 unfolding seed_ok
 seed_taken n h = rw (le-leb 0 n (omega arith), le-leb n seed_most h)
 
 seed_beyond : (n : ℕ) → seed_most < n → seed_ok (pos n) ≡ false
 unfolding seed_ok
 seed_beyond n h = rw (le-leb 0 n (omega arith), lt-leb n seed_most h)
-
-seed_still : (z : ℤ) → older_seed_ok z ≡ true → seed_ok z ≡ true
-unfolding older_seed_ok
-seed_still z e = let b = between 0 older_seed_most z e in let h = b.most in rw (b.is, seed_taken b.n (omega arith))
-
--- a second test that is wider alters no answer but the one of the test that it replaces
-wider : (a b c : Bool) (ts : List Test) → (b ≡ true → c ≡ true) → (refusal (must a 1 ∷ must b 2 ∷ ts) ≡ 2 → ⊥)
-    → refusal (must a 1 ∷ must c 2 ∷ ts) ≡ refusal (must a 1 ∷ must b 2 ∷ ts)
-unfolding refusal
-wider false b c ts f n = refl
-wider true true c ts f n = rw (f refl)
-wider true false c ts f n = absurd (n refl)
-
--- refused or not, but for the seed
-pub answered_same : (h : Header) → (older_limit_refusal h ≡ 2 → ⊥) → limit_refusal h ≡ older_limit_refusal h
-unfolding limit_refusal older_limit_refusal
-answered_same h n = wider (size_ok h.chunk_size) (older_seed_ok h.seed) (seed_ok h.seed) _ (seed_still h.seed) n
 
 -- a seed to ten million is answered as the seed 0 was
 pub seed_answered : (h : Header) (n : ℕ) → h.seed ≡ pos n → n ≤ 10000000

@@ -1,4 +1,6 @@
 // The settings of the ground, the place of a chunk and their limits; limits and refusal numbers by name.
+#![tactic(auto)]
+
 ghost use Rattle.std.specs.Prelude.{◌≡◌, true, ◌<◌};
 ghost use Rattle.config.specs.Limits.{within, size_ok, place_ok, places_ok, limit_refusal, config_header, Narrow};
 ghost use Rattle.std.specs.Int.Signed.{mag};
@@ -13,7 +15,7 @@ use crate::refusals::{OK, PLACE, SEA_LEVEL, SEED, SIZE, WORLD_HEIGHT};
 
 // As in the Rust; the limits are narrower (SCOPE 2.1).
 #[repr(C)]
-#[derive(Drop)]
+#[derive(Clone, Copy)]
 pub struct TerrainConfig {
     pub seed: u32,
     pub sea_level: i32,
@@ -23,7 +25,7 @@ pub struct TerrainConfig {
 
 // The place of a chunk, counted in chunks.
 #[repr(C)]
-#[derive(Drop)]
+#[derive(Clone, Copy)]
 pub struct ChunkPos {
     pub cx: i32,
     pub cy: i32,
@@ -31,7 +33,7 @@ pub struct ChunkPos {
 }
 
 // The seven numbers of a journal's first line, in its order, before their limits are known.
-#[derive(Drop)]
+#[derive(Clone, Copy)]
 pub struct Header {
     pub seed: i64,
     pub sea_level: i64,

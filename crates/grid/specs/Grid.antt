@@ -1,6 +1,8 @@
 -- The laws of a chunk's indices (SCOPE 5.1), and of lists that are filled from the front. Assumes nothing.
-use Rattle.std.specs.Prelude.{◌≡◌, refl, ℕ, zero, suc, ◌+◌, ◌*◌, ◌/◌, ◌%◌, ◌≤◌, ◌<◌, Bool, true, false, cond, List, [], ◌∷◌, ◌++◌, length, set, get_or, drop, T, ltb}
-use Rattle.std.proofs.Common.{sym, ap, ap₂, ◌∙◌, subst, arith, add-mul, mul-le-mul, div-lt_iff_lt-mul, mod-lt, add-one, append_assoc, append-nil, length-append, length-drop, length-set, drop_of_length-le, drop-cons, ext_get_or}
+use Rattle.std.specs.Prelude.{◌≡◌, refl, ℕ, zero, suc, ◌+◌, ◌*◌, ◌/◌, ◌%◌, ◌≤◌, ◌<◌, Bool, true, false, cond, List, [], ◌∷◌, ◌++◌, length, set}
+use Rattle.std.specs.Prelude.{get_or, drop, T, ltb}
+use Rattle.std.proofs.Common.{sym, ap, ap₂, ◌∙◌, subst, arith, add-mul, mul-le-mul, div-lt_iff_lt-mul, mod-lt, add-one, append_assoc, append-nil}
+use Rattle.std.proofs.Common.{length-append, length-drop, length-set, drop_of_length-le, drop-cons, ext_get_or}
 use Rattle.std.proofs.Math.ListN.{get_or-append}
 use Rattle.std.proofs.lemmas.List.{set_at, get_or_at}
 use Rattle.std.proofs.Math.Arith.{digits_lt, digits_div, digits_mod}

@@ -1,4 +1,6 @@
 // The cells of a chunk: a cube of size × size × size ids in a borrowed slice, x varying fastest.
+#![tactic(auto)]
+
 ghost use Rattle.std.specs.Prelude.{◌≡◌, ◌≤◌, ◌<◌};
 ghost use Rattle.grid.specs.Cube.{Cube, cell_index, inside, put_at, see_at};
 ghost use Rattle.grid.specs.Count.{non_air, non_air_count};

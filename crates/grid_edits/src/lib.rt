@@ -1,1 +1,2 @@
 // What an edit does to the cells: definitions only.
+#![tactic(auto)]

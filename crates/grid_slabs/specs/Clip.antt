@@ -1,7 +1,8 @@
 -- A part of a chunk, some of its slabs (a slab has the cells of one z), goes as the chunk does. Assumes nothing.
 use Rattle.std.specs.Prelude.{◌≡◌, refl, Bool, cond, List, length, set, get_or, eqb, ltb}
-use Rattle.std.proofs.Common.{sym, ap, ◌∙◌, arith, true≢false, length-set, ext_get_or, get_or-set_same, get_or-set_other, eqb-true, lt-ltb, le-leb, ltb-true, ltb-false}
-use Prim.Native.Nat.{ℕ, zero, suc, ◌-◌, ◌*◌, ◌/◌, ◌≤◌, ◌<◌}
+use Rattle.std.proofs.Common.{sym, ap, ◌∙◌, arith, true≢false, length-set, ext_get_or, get_or-set_same, get_or-set_other, eqb-true, lt-ltb, le-leb}
+use Rattle.std.proofs.Common.{ltb-true, ltb-false}
+use Prim.Native.Nat.{ℕ, zero, suc, ◌*◌, ◌/◌, ◌≤◌, ◌<◌}
 use Rattle.std.proofs.Math.Bool.{true, false}
 use Rattle.std.proofs.lemmas.Bool.{eqb-false}
 use Rattle.basics.specs.Bools.{by_bool}

@@ -1,6 +1,7 @@
 -- Cells laid one after the other from a place on, with all else as it was. Assumes nothing.
-use Rattle.std.specs.Prelude.{◌≡◌, refl, ℕ, ◌+◌, ◌*◌, ◌/◌, ◌≤◌, ◌<◌, true, false, List, ltb, eqb, length, get_or, set}
-use Rattle.std.proofs.Common.{sym, ap, ◌∙◌, subst, arith, add-mul, mul_assoc, div-lt_iff_lt-mul, le-div_iff_mul-le, true≢false, length-set, get_or-set_same, get_or-set_other, ltb-true, ltb-false, eqb-true}
+use Rattle.std.specs.Prelude.{◌≡◌, refl, ℕ, ◌+◌, ◌*◌, ◌/◌, ◌≤◌, ◌<◌, true, List, ltb, eqb, length, get_or, set}
+use Rattle.std.proofs.Common.{sym, ap, ◌∙◌, subst, arith, add-mul, mul_assoc, div-lt_iff_lt-mul, le-div_iff_mul-le, true≢false, length-set}
+use Rattle.std.proofs.Common.{get_or-set_same, get_or-set_other, ltb-true, ltb-false, eqb-true}
 use Rattle.std.proofs.Math.ListN.{get_or-eq_default}
 use Rattle.std.proofs.lemmas.Bool.{eqb-false}
 use Rattle.basics.specs.Bools.{by_bool}

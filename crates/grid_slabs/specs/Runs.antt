@@ -37,7 +37,8 @@ pub blocks_none : (l : List ℕ) (start : ℕ) → 0 ≡ non_air_count (take 0 (
 blocks_none l start = sym count_none
 
 pub apart_more : (old l : List ℕ) (start i : ℕ) → start + i < length l → i < length old
-    → differing (take i old) (take i (drop start l)) + apart (get_or old i 0) (get_or l (start + i) 0) ≡ differing (take (i + 1) old) (take (i + 1) (drop start l))
+    → differing (take i old) (take i (drop start l)) + apart (get_or old i 0) (get_or l (start + i) 0)
+    ≡ differing (take (i + 1) old) (take (i + 1) (drop start l))
 apart_more old l start i h k =
     let a : length (take i old) ≡ i = simp length-take (omega arith) in
     let b : length (take i (drop start l)) ≡ i = simp (length-take, length-drop) (omega arith) in

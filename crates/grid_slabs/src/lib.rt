@@ -1,4 +1,6 @@
 // Slabs of a chunk, each the cells of one z: which are meant, one filled, and one kept aside and compared with what stands there later.
+#![tactic(auto)]
+
 ghost use Rattle.std.specs.Prelude.{◌≡◌, ◌+◌, ◌*◌, ◌≤◌, ◌<◌, length, take, drop};
 ghost use Rattle.grid.specs.Cube.{Cube, all_of};
 ghost use Rattle.grid.specs.Count.{non_air_count};

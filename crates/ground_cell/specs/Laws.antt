@@ -1,5 +1,6 @@
 -- What holds of every column and every cell of the base (SCOPE 4.6 to 4.10). Assumes nothing.
-use Rattle.std.specs.Prelude.{◌≡◌, refl, ℕ, zero, suc, ◌+◌, ◌-◌, ◌*◌, ◌/◌, ◌%◌, ◌≤◌, ◌<◌, Bool, true, false, ◌&&◌, cond, length, get_or, T, ltb, leb, ℤ, pos, negsuc, ◌+ℤ◌, ◌-ℤ◌}
+use Rattle.std.specs.Prelude.{◌≡◌, refl, ℕ, zero, suc, ◌+◌, ◌-◌, ◌*◌, ◌/◌, ◌%◌, ◌≤◌, ◌<◌, Bool, true, false, ◌&&◌, cond, length, get_or, T, ltb, leb}
+use Rattle.std.specs.Prelude.{ℤ, pos, negsuc, ◌+ℤ◌, ◌-ℤ◌}
 use Rattle.std.proofs.Common.{sym, ap, ap₂, ◌∙◌, subst, arith, leb→le, ltb→lt, ltb-true, ltb-false, leb-true, le-leb, le-ltb}
 use Rattle.std.proofs.Math.ListN.{get_or-eq_default}
 use Rattle.std.specs.Int.Signed.{lt_z, le_z}
@@ -78,8 +79,10 @@ pub select_block_solid : (b : Biome) (wy h sea : ℤ) → Block (select_block b 
 unfolding select_block desert_block mountain_block forest_block plains_block
 select_block_solid Desert wy h sea = one_of (lt_z (h -ℤ wy) (pos 5)) 4 _ (lit 4 tt tt) (one_of (lt_z (h -ℤ wy) (pos 9)) 7 1 (lit 7 tt tt) (lit 1 tt tt))
 select_block_solid Mountain wy h sea = one_of (lt_z (h -ℤ wy) (pos 3)) _ 1 (top_block_lem wy h) (lit 1 tt tt)
-select_block_solid Forest wy h sea = one_of (lt_z (h -ℤ wy) (pos 2)) _ _ (shore_block_lem h sea) (one_of (lt_z (h -ℤ wy) (pos 6)) 2 1 (lit 2 tt tt) (lit 1 tt tt))
-select_block_solid Plains wy h sea = one_of (lt_z (h -ℤ wy) (pos 2)) _ _ (shore_block_lem h sea) (one_of (lt_z (h -ℤ wy) (pos 5)) 2 1 (lit 2 tt tt) (lit 1 tt tt))
+select_block_solid Forest wy h sea =
+    one_of (lt_z (h -ℤ wy) (pos 2)) _ _ (shore_block_lem h sea) (one_of (lt_z (h -ℤ wy) (pos 6)) 2 1 (lit 2 tt tt) (lit 1 tt tt))
+select_block_solid Plains wy h sea =
+    one_of (lt_z (h -ℤ wy) (pos 2)) _ _ (shore_block_lem h sea) (one_of (lt_z (h -ℤ wy) (pos 5)) 2 1 (lit 2 tt tt) (lit 1 tt tt))
 
 either : (b : Bool) (x y : ℕ) → x < 65536 → y < 65536 → cond b x y < 65536
 either true x y p q = p

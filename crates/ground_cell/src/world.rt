@@ -7,7 +7,7 @@ use crate::block::{AIR, WATER, select_block};
 use column::Biome;
 
 // The settings without the chunk's size, as `generate` of terrain.rs works them out.
-#[derive(Drop)]
+#[derive(Clone, Copy)]
 pub struct World {
     pub seed_offset: f32,
     pub sea_level: i32,
@@ -15,7 +15,7 @@ pub struct World {
 }
 
 // Where a chunk begins, and its size.
-#[derive(Drop)]
+#[derive(Clone, Copy)]
 pub struct Frame {
     pub ox: i32,
     pub oy: i32,

@@ -1,5 +1,5 @@
 pub mod Over
-pub mod Contracts
+pub mod AsMade
 pub mod Statement
 pub mod Theorem
 pub mod Witness

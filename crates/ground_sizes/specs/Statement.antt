@@ -1,4 +1,4 @@
--- ANY SIZE, ONE GROUND, SCOPE 4.16: one statement about chunks of two sizes as the code leaves them. `Contracts` says what the code leaves, `Over`
+-- ANY SIZE, ONE GROUND, SCOPE 4.16: one statement about chunks of two sizes as the code leaves them. `AsMade` says what the code leaves, `Over`
 -- what boulders and trees may lay over a cell. `Theorem` proves it. Assumes nothing.
 use Rattle.std.specs.Prelude.{◌≡◌, List, ℕ, ◌+◌, ◌*◌, ◌≤◌, ◌<◌, ℤ, pos, ◌+ℤ◌, ◌*ℤ◌, get_or}
 use Rattle.config.specs.declared.TerrainConfig.{TerrainConfig}
@@ -7,7 +7,7 @@ use Rattle.grid.specs.Cube.{cell_index}
 use Rattle.ground_cell.specs.World.{base_cell}
 use Rattle.ground.specs.Ground.{world_of}
 use Rattle.ground_sizes.specs.Over.{Over}
-use Rattle.ground_sizes.specs.Contracts.{NotedTops, LaidRows, Generates}
+use Rattle.ground_sizes.specs.AsMade.{NotedTops, LaidRows, Generates}
 
 -- settings that differ in size only
 pub record SizeOnly (s t : TerrainConfig) : Type 0 where

@@ -18,7 +18,7 @@ use Rattle.ground_cell.specs.declared.world.World.{World}
 use Rattle.ground_cell.specs.declared.world.Frame.{Frame}
 use Rattle.ground.specs.Ground.{world_with, world_of, frame_of, ground, generate_refusal, generate_does}
 use Rattle.ground_sizes.specs.Over.{Over, ground_over}
-use Rattle.ground_sizes.specs.Contracts.{NotedTops, LaidRows, Generates}
+use Rattle.ground_sizes.specs.AsMade.{NotedTops, LaidRows, Generates}
 use Rattle.ground_sizes.specs.Statement.{SizeOnly, Lies, cell_of, column_of, RowCovered, SameCell, OneGround, OneGroundTheorem}
 
 -- settings that differ in size only make one world

@@ -15,7 +15,7 @@ use Rattle.ground_cell.specs.World.{Tall, base_cell}
 use Rattle.ground_cell.specs.Base.{base_numbered, base_cells, column_height, column_biome}
 use Rattle.ground_cell.specs.Laws.{base_length, base_above, height_most}
 use Rattle.ground.specs.Ground.{world_of, frame_of, ground, generate_refusal, generate_does}
-use Rattle.ground_sizes.specs.Contracts.{LentNumbers, LentFloats, NotedTops, LaidRows, Generates}
+use Rattle.ground_sizes.specs.AsMade.{LentNumbers, LentFloats, NotedTops, LaidRows, Generates}
 use Rattle.ground_sizes.specs.Statement.{Lies, RowCovered}
 
 -- a slice somewhere that holds these numbers, and one of f32 that holds none

@@ -63,7 +63,8 @@ module _ (s lo hi : ℕ) (q : List ℕ) where
       if_off true j r = set_off s lo hi q p c j 9 r k
       if_off false j r = k
 
-  pub pillar_clip : (oy : ℤ) (x z y n v : ℕ) (p c : List ℕ) → Clip s lo hi q p c → Clip s lo hi q (pillar_in lo hi s oy x z y n v p) (pillar_of s oy x z y n v c)
+  pub pillar_clip : (oy : ℤ) (x z y n v : ℕ) (p c : List ℕ) → Clip s lo hi q p c
+      → Clip s lo hi q (pillar_in lo hi s oy x z y n v p) (pillar_of s oy x z y n v c)
   unfolding pillar_in pillar_of pillar_step
   pillar_clip oy x z y n v p c k = by_bool (in_rows lo hi z)
       (λ e. rw e (steps_clip s lo hi q n _ _ p c (λ j a b h. rw e at (put_clip s lo hi q x (local_y s oy (pos (y + j))) z v a b h)) k))

@@ -12,9 +12,11 @@ use Rattle.ground_cell.specs.World.{local_y}
 use Rattle.ground_cell.specs.declared.world.Frame.{Frame}
 use Rattle.ground_cell.specs.declared.world.Top.{Top}
 use Rattle.ground_trees.specs.Signs.{range_length}
-use Rattle.ground_trees.specs.Features.{inset_in, pillar_step, pillar_of, boulder_hash, boulder_blocks, place_boulder, boulder_column, boulder_step, boulders_of}
+use Rattle.ground_trees.specs.Features.{inset_in, pillar_step, pillar_of, boulder_hash, boulder_blocks, place_boulder, boulder_column, boulder_step}
+use Rattle.ground_trees.specs.Features.{boulders_of}
 use Rattle.ground_trees.specs.Features.{leaf_at, offset_or, has_leaf, leaf_step, layer_step, layer_of, leaf_radius, layers_of, canopy_step, canopy_of, grow_of}
-use Rattle.ground_trees.specs.Features.{trunk_height, crown_of, plant_of, tree_hash, variety_of, tree_grows, is_giant, place_tree, tree_column, tree_step, trees_of}
+use Rattle.ground_trees.specs.Features.{trunk_height, crown_of, plant_of, tree_hash, variety_of, tree_grows, is_giant, place_tree, tree_column}
+use Rattle.ground_trees.specs.Features.{tree_step, trees_of}
 
 -- R is a relation between the cells before and after. What keeps it: block v, put on the top of the column (x, z) or above; a leaf, anywhere.
 module _ (R : List ℕ → List ℕ → Type 0) where

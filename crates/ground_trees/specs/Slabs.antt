@@ -16,7 +16,8 @@ pillar_in lo hi size oy x z y n v c = cond (in_rows lo hi z) (pillar_of size oy 
 
 -- a trunk, then the canopy
 unfoldable pub grow_in : ℕ → ℕ → ℕ → ℤ → ℕ → ℕ → ℤ → ℤ → ℕ → ℤ → ℕ → ℕ → List ℕ → List ℕ
-grow_in lo hi size oy x z wx wz y trunk r n c = canopy_in lo hi size oy x z wx wz (pos y +ℤ trunk) r n (pillar_in lo hi size oy x z y (range_length trunk) LOG c)
+grow_in lo hi size oy x z wx wz y trunk r n c =
+    canopy_in lo hi size oy x z wx wz (pos y +ℤ trunk) r n (pillar_in lo hi size oy x z y (range_length trunk) LOG c)
 
 -- a giant or a normal tree
 unfoldable pub plant_in : ℕ → ℕ → ℕ → ℤ → ℕ → ℕ → ℤ → ℤ → ℕ → Bool → Float → List ℕ → List ℕ

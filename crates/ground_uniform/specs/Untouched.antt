@@ -6,7 +6,8 @@ use Rattle.ground_cell.specs.World.{local_y}
 use Rattle.ground_cell.specs.declared.world.Frame.{Frame}
 use Rattle.ground_cell.specs.declared.world.Top.{Top}
 use Rattle.ground_trees.specs.Signs.{hash2_plus}
-use Rattle.ground_trees.specs.Features.{inset_in, pillar_step, pillar_of, boulder_hash, boulder_blocks, place_boulder, boulder_column, boulder_step, boulders_of}
+use Rattle.ground_trees.specs.Features.{inset_in, pillar_step, pillar_of, boulder_hash, boulder_blocks, place_boulder, boulder_column, boulder_step}
+use Rattle.ground_trees.specs.Features.{boulders_of}
 use Rattle.ground_trees.specs.Features.{tree_hash, tree_grows, place_tree, tree_column, tree_step, trees_of}
 use Rattle.ground_uniform.specs.Reach.{boulder_most}
 use Rattle.grid.specs.Grid.{put_out, see_out}

@@ -12,7 +12,8 @@ ghost use Rattle.chunk_tally.specs.Tally.{chunk_tally_does};
 ghost use Rattle.planes.specs.Planes.{to_planes_does, from_planes_does};
 ghost use Rattle.session_calls.specs.Calls.{session_fresh_does, session_reopen_does};
 ghost use Rattle.journal_prefix.specs.Prefix.{committed_part};
-ghost use Rattle.host_answers.specs.Answers.{answer_of, answered, edit_in_c, batch_answered, batch_in_c, border_answered, border_in_c_does, tally_answered, tally_in_c};
+ghost use Rattle.host_answers.specs.Answers.{answer_of, answered, edit_in_c, batch_answered, batch_in_c, border_answered, border_in_c_does};
+ghost use Rattle.host_answers.specs.Answers.{tally_answered, tally_in_c};
 ghost use Rattle.host_answers.specs.Answers.{planes_answered, planes_in_c};
 ghost use Rattle.host_starts.specs.Sessions.{begun_in_c, fresh_in_c, resumed_in_c, reopen_in_c};
 

@@ -127,7 +127,8 @@ planes_in_c o = planes_answered (answer_of o.answer) o.bytes
 pub edit_in_c_lem : (r : AnswerInC) (a : Answer) (c : List ℕ) (o : CellsOutcome) → r ≡ answer_of a → cells_outcome a c ≡ o → answered r c ≡ edit_in_c o
 edit_in_c_lem r a c o e f = ap (λ (u : AnswerInC). answered u c) e ∙ ap edit_in_c f
 
-pub batch_in_c_lem : (r : BatchAnswerInC) (a : Answer) (c : List ℕ) (o : CellsOutcome) → r ≡ batch_answer_of a → cells_outcome a c ≡ o → batch_answered r c ≡ batch_in_c o
+pub batch_in_c_lem : (r : BatchAnswerInC) (a : Answer) (c : List ℕ) (o : CellsOutcome)
+    → r ≡ batch_answer_of a → cells_outcome a c ≡ o → batch_answered r c ≡ batch_in_c o
 batch_in_c_lem r a c o e f = ap (λ (u : BatchAnswerInC). batch_answered u c) e ∙ ap batch_in_c f
 
 pub border_in_c_lem : (n size : ℕ) (face : Face) (c b b' : List ℕ) (r : AnswerInC) (a : Answer)
@@ -139,7 +140,8 @@ pub tally_in_c_lem : (r : AnswerInC) (a : Answer) (ids counts : List ℕ) (o : T
     → r ≡ answer_of a → tally_outcome a ids counts ≡ o → tally_answered r ids counts ≡ tally_in_c o
 tally_in_c_lem r a ids counts o e f = ap (λ (u : AnswerInC). tally_answered u ids counts) e ∙ ap tally_in_c f
 
-pub planes_in_c_lem : (r : AnswerInC) (a : Answer) (b : List ℕ) (o : PlanesOutcome) → r ≡ answer_of a → planes_outcome a b ≡ o → planes_answered r b ≡ planes_in_c o
+pub planes_in_c_lem : (r : AnswerInC) (a : Answer) (b : List ℕ) (o : PlanesOutcome)
+    → r ≡ answer_of a → planes_outcome a b ≡ o → planes_answered r b ≡ planes_in_c o
 planes_in_c_lem r a b o e f = ap (λ (u : AnswerInC). planes_answered u b) e ∙ ap planes_in_c f
 
 -- only 0 to 5 name a face

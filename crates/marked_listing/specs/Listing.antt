@@ -48,8 +48,8 @@ abbrev first : Header
 first = header (pos 0) (pos 4096) (pos 256) (pos 2) (pos 0) (pos 128) (pos 0)
 
 opens : opening_of listing_journal 48 ≡ Opens first 45 23
-unfolding opening_of lines lines_from committed header_of tagged_of fields integers_of integer_of whole_of limit_refusal refusal size_ok seed_ok sea_ok height_ok
-    places_ok place_ok
+unfolding opening_of lines lines_from committed header_of tagged_of fields integers_of integer_of whole_of limit_refusal refusal size_ok seed_ok
+    sea_ok height_ok places_ok place_ok
 opens = refl
 
 later : follow 2 2 none_active (lines (drop 23 (take 45 listing_journal))) ≡ read (active (set 0 0 0 0 ∷ []) [])

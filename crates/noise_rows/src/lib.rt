@@ -13,7 +13,7 @@ use num_core::float::floor_part;
 use num_core::wrap::{of_bits, wrapping_add};
 
 // A lattice square and the hashes of its corners: a and b at iy, c and d at iy + 1.
-#[derive(Drop)]
+#[derive(Clone, Copy)]
 pub struct Square {
     pub ix: i32,
     pub iy: i32,

@@ -1,6 +1,8 @@
 -- What wrapping and the right shift (SCOPE 3.3) mean over the integers: laws of Wrap. Assumes nothing.
-use Rattle.std.specs.Prelude.{◌≡◌, ℕ, zero, suc, ◌+◌, ◌-◌, ◌*◌, ◌/◌, ◌%◌, ◌^◌, ◌<◌, ◌≤◌, Bool, true, false, ℤ, pos, negsuc, ◌+ℤ◌, ◌*ℤ◌, neg_ℤ, FitsSigned, nat_lt, refl}
-use Rattle.std.proofs.Common.{sym, ap, ap₂, ◌∙◌, subst, add_comm, div-add-mod', mod-eq_of_lt, mod-lt, mul-add, mul_comm, suc-mul, zero-mul, arith, pow_pos, le-ltb, ltb-true, ltb-false}
+use Rattle.std.specs.Prelude.{◌≡◌, ℕ, zero, suc, ◌+◌, ◌-◌, ◌*◌, ◌/◌, ◌%◌, ◌^◌, ◌<◌, ◌≤◌, Bool, true, false, ℤ, pos, negsuc, ◌+ℤ◌, ◌*ℤ◌, neg_ℤ}
+use Rattle.std.specs.Prelude.{FitsSigned, nat_lt, refl}
+use Rattle.std.proofs.Common.{sym, ap, ap₂, ◌∙◌, subst, add_comm, div-add-mod', mod-eq_of_lt, mod-lt, mul-add, mul_comm, suc-mul, zero-mul, arith}
+use Rattle.std.proofs.Common.{pow_pos, le-ltb, ltb-true, ltb-false}
 use Rattle.std.proofs.Math.Nat.{add-mul-mod_self_right}
 use Rattle.std.proofs.Math.IntN.{sub_ℕ}
 use Rattle.std.specs.Int.Signed.{shr_z}

@@ -97,7 +97,8 @@ module _ (j : List ℕ) (held : ℕ) (c : List ℕ) (enough : 4096 ≤ length c)
     later_decide small =
         reopen_is (take (lent_cells j held) c) j held
         ∙ ap (from_opening (take (lent_cells j held) c) j held) e
-        ∙ open_with_lem (take (lent_cells j held) c) n (held - n) h (lines (drop second (take n j))) (opening_facts j held h n second e).limits (lent_whole small)
+        ∙ open_with_lem (take (lent_cells j held) c) n (held - n) h (lines (drop second (take n j)))
+        (opening_facts j held h n second e).limits (lent_whole small)
 
     -- and 6 is never printed
     pub never_6 : nat_abs h.chunk_size ≤ 16 → (line : ℕ) → printed j held c ≡ no_text 6 line → ⊥

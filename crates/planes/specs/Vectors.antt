@@ -27,7 +27,8 @@ one_out = refl
 
 -- size 4: the positions of (1, 0, 0), (0, 1, 0), (0, 0, 1), (2, 0, 0), (0, 2, 0), (0, 0, 2), (1, 2, 3) and (3, 3, 3)
 pub four_positions :
-    morton_of 2 1 0 0 ∷ morton_of 2 0 1 0 ∷ morton_of 2 0 0 1 ∷ morton_of 2 2 0 0 ∷ morton_of 2 0 2 0 ∷ morton_of 2 0 0 2 ∷ morton_of 2 1 2 3 ∷ morton_of 2 3 3 3 ∷ []
+    morton_of 2 1 0 0 ∷ morton_of 2 0 1 0 ∷ morton_of 2 0 0 1 ∷ morton_of 2 2 0 0 ∷ morton_of 2 0 2 0
+    ∷ morton_of 2 0 0 2 ∷ morton_of 2 1 2 3 ∷ morton_of 2 3 3 3 ∷ []
     ≡ 1 ∷ 2 ∷ 4 ∷ 8 ∷ 16 ∷ 32 ∷ 53 ∷ 63 ∷ []
 unfolding morton_of spread
 four_positions = refl

@@ -1,4 +1,6 @@
 // A chunk's cells as two planes of bytes in Morton order: what the calls answer, and the tests that they begin with.
+#![tactic(auto)]
+
 ghost use Rattle.std.specs.Prelude.{◌≡◌};
 ghost use Rattle.planes.specs.Planes.{power_size, planes_refusal};
 

@@ -1,4 +1,4 @@
--- THE TAKEOVER THEOREM, SCOPE 9.5: one statement over the whole list of calls as they were made, and every cut. `Contracts` says what a list as it
+-- THE TAKEOVER THEOREM, SCOPE 9.5: one statement over the whole list of calls as they were made, and every cut. `AsMade` says what a list as it
 -- was made is, a first tablet and a second. In the crate `takeover_model`, `Statement` says what is compared and what a cut is, and `Model` is the
 -- reference model. `Theorem` proves it. Assumes nothing.
 use Rattle.std.specs.Prelude.{◌≡◌, List, ℕ, ◌+◌, ◌≤◌, ◌<◌, length, take}
@@ -10,7 +10,7 @@ use Rattle.session_calls.specs.declared.Reply.{Reply}
 use Rattle.session_calls.specs.declared.Reopened.TheVariants.{Opened, Refused}
 use Rattle.takeover_model.specs.Model.{Call, Model, model_fresh, model_run, model_replies}
 use Rattle.takeover_model.specs.Statement.{Tablet, used_bytes, Alike, AsModel, Laid, CutAt}
-use Rattle.takeover.specs.Contracts.{Made, after, First, began, Second, resumes}
+use Rattle.takeover.specs.AsMade.{Made, after, First, began, Second, resumes}
 
 -- SCOPE 8.1: the reference model of the same start, with the first tablet's settings, place and length of the lent journal
 abbrev pub model : First → Model

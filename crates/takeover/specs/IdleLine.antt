@@ -14,7 +14,7 @@ use Rattle.takeover_model.specs.Statement.{tablet}
 use Rattle.takeover_model.specs.Run.{replies}
 use Rattle.takeover_model.specs.Older.{older_model, flat, flat_journal, flat_opens, flat_undone}
 use Rattle.takeover_model.specs.Takeover.{same_replies}
-use Rattle.takeover.specs.Contracts.{Second, resumes}
+use Rattle.takeover.specs.AsMade.{Second, resumes}
 use Rattle.takeover.specs.Theorem.{ran}
 use Rattle.takeover.specs.Witness.{Makes, makes, second}
 

@@ -1,4 +1,4 @@
-pub mod Contracts
+pub mod AsMade
 pub mod Demand
 pub mod Theorem
 pub mod Undos

@@ -6,8 +6,9 @@ use Rattle.std.proofs.Common.{sym, ◌∙◌, ap, subst, arith}
 use Rattle.config.specs.Limits.{config_header}
 use Rattle.journal_format.specs.Line.{header_text}
 use Rattle.journal_format.specs.Journal as J
-use Rattle.journal_format.specs.Lines.{NoLF, no_lf_append}
-use Rattle.journal_format.specs.RoundTrip.{header_no_lf}
+use Rattle.journal_format.specs.Lines.{NoLF}
+use Rattle.journal_format.proofs.Lines.{no_lf_append}
+use Rattle.journal_format.proofs.RoundTrip.{header_no_lf}
 use Rattle.session_calls.specs.Calls.{Outcome, Recorded, Begun, session_fresh_does, Resumed, resumed}
 use Rattle.session_calls.specs.Checkpoints.{beside_cells}
 use Rattle.session_calls.specs.declared.Reply.{Reply}
@@ -19,7 +20,7 @@ use Rattle.takeover_model.specs.Run.{run, replies}
 use Rattle.takeover_model.specs.Steps.{Holds}
 use Rattle.takeover_model.specs.Open.{Fresher, fresh_holds, reopens_none}
 use Rattle.takeover_model.specs.Takeover.{Taken, taken, first_cut, Along, along, as_model, laid_on, same_replies}
-use Rattle.takeover.specs.Contracts.{noted, Made, none, set, column, batch, undo, checkpoint, restore, form, after, gave, First, began, Second, resumes}
+use Rattle.takeover.specs.AsMade.{noted, Made, none, set, column, batch, undo, checkpoint, restore, form, after, gave, First, began, Second, resumes}
 use Rattle.takeover.specs.Demand.{model, first_line, TakenOver, TakeoverTheorem}
 
 -- ---- what was made is what `run` and `replies` say

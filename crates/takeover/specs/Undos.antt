@@ -14,7 +14,7 @@ use Rattle.takeover_model.specs.Steps.{Good, Holds}
 use Rattle.takeover_model.specs.Opened.{opened_start}
 use Rattle.takeover_model.specs.Takeover.{along, same_replies}
 use Rattle.takeover_model.specs.Alters.{NoIdleLine, UndosAlter, NoIdle, fresh_no_idle, run_no_idle, undos_alter, held_no_idle, model_no_idle, alike_no_idle}
-use Rattle.takeover.specs.Contracts.{Made, after, First, began, Second, resumes}
+use Rattle.takeover.specs.AsMade.{Made, after, First, began, Second, resumes}
 use Rattle.takeover.specs.Demand.{model, TakenOver}
 use Rattle.takeover.specs.Theorem.{ran, after_ran, start, holds}
 

@@ -13,8 +13,8 @@ use Rattle.session_calls.specs.Calls.{Outcome, begun, session_fresh_does, sessio
 use Rattle.takeover_model.specs.Model.{Call}
 use Rattle.takeover_model.specs.Model as M
 use Rattle.takeover_model.specs.Statement.{Tablet, leaves, does}
-use Rattle.takeover.specs.Contracts.{Lent, Turn, Note, Made, First, Second}
-use Rattle.takeover.specs.Contracts as C
+use Rattle.takeover.specs.AsMade.{Lent, Turn, Note, Made, First, Second}
+use Rattle.takeover.specs.AsMade as C
 
 -- a slice somewhere that holds these numbers
 abbrev holding : List ℕ → Lent

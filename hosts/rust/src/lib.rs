@@ -28,7 +28,6 @@ pub enum Refusal {
     LaterLine(usize),
     TallyLists,
     Record,
-    /// Undo, checkpoint, restore: behind the first line the used bytes are not this record's.
     UsedBytes,
     NothingActive,
     Full,
@@ -42,8 +41,6 @@ pub enum Refusal {
     PlanesSize,
     /// The bytes of the planes are not 2 * size * size * size.
     PlanesBytes,
-    /// The file of another map: the used bytes do not begin with this record's first line.
-    OtherMap,
     /// A number that this wrapper does not know: it does not belong to the archive.
     Unknown(u32),
 }
@@ -74,7 +71,6 @@ fn refusal(number: u32, line: usize) -> Result<(), Refusal> {
         27 => Refusal::ManyNames,
         28 => Refusal::PlanesSize,
         29 => Refusal::PlanesBytes,
-        30 => Refusal::OtherMap,
         other => Refusal::Unknown(other),
     })
 }
@@ -154,9 +150,6 @@ fn lent(cells: &mut [u16], journal: &mut [u8]) -> (*mut u16, usize, *mut u8, usi
     (cells.as_mut_ptr(), n, journal.as_mut_ptr(), m)
 }
 
-/// Each call tests, straight after the record, that the used bytes begin with the whole first line that the record's
-/// settings and place write, LF included; else it is refused with `OtherMap`, also an edit that would be idle.
-///
 /// A set, column or batch after which every cell is the same is idle: it is accepted with its usual answer, changes
 /// nothing, has no line and does not become active, also where 256 edits are active or the journal is full. An older
 /// journal may have lines of idle edits: there they are active.

@@ -1,12 +1,11 @@
-//! An example host: a fresh map, presses, a cut at every byte, and the next tablet takes over; two maps whose files are
-//! mixed up (`mixed_up`); and a shelf copy of a chunk, written and restored (`shelf_copy`, `shelf_restore`). A wrong
-//! answer or map ends it with a message and exit status 1.
+//! An example host: a fresh map, presses, a cut at every byte, and the next tablet takes over; and a shelf copy
+//! of a chunk, written and restored (`shelf_copy`, `shelf_restore`). A wrong answer or map ends it with a message and
+//! exit status 1.
 use perillahinge::{self as map, Batch, Config, Face, Pos, Refusal, Session, SEED_MOST};
 use std::env;
 use std::fs::{self, File};
 use std::io::{self, Read, Seek, Write};
 use std::process::{self, ExitCode};
-use std::{mem, slice};
 
 const SIZE: usize = 4;
 const CELLS: usize = SIZE * SIZE * SIZE;
@@ -274,7 +273,7 @@ fn refusals(last: &Tablet) -> Result<(), String> {
     let first = map::reopen(&mut t.cells, &t.journal, t.session.used);
     check(first == Err(Refusal::FirstLine), "a file that is no journal")?;
     for press in [Press::Undo, Press::Checkpoint("walls"), Press::Restore("walls")] {
-        check(t.press(&press) == Err(Refusal::OtherMap), "another's journal")?;
+        check(t.press(&press) == Err(Refusal::UsedBytes), "another's journal")?;
     }
     // An undo with nothing active, a name that no line before has, a bad name, and again nothing active.
     for (lines, line) in [
@@ -588,124 +587,6 @@ fn many() -> Result<(), String> {
         answer == Err(Refusal::LaterLine(280)),
         &format!("a seventeenth name in a journal: {answer:?}"),
     )
-}
-
-/// Two children's files: one press each, on eight cells of water. The seeds differ in one digit, at byte 7.
-const CHILDREN: [(u32, &[u8]); 2] = [
-    (171126, b"G\t171126\t4096\t256\t2\t0\t128\t0\nS\t0\t0\t0\t9\n"),
-    (171127, b"G\t171127\t4096\t256\t2\t0\t128\t0\nS\t0\t0\t0\t9\n"),
-];
-
-/// The bytes of their first line, LF included.
-const CHILD_LINE: usize = 28;
-
-/// What presses on a child's map tell with its own file, each by itself.
-const OWN_FILE: [(Press, Answer); 12] = [
-    (Press::Set([0, 0, 0], 7), Ok(Told::Replaced(9))),
-    (Press::Set([1, 1, 1], 5), Ok(Told::Replaced(5))),
-    (Press::Set([2, 0, 0], 7), Err(Refusal::Outside)),
-    (Press::Column([0, 0], 2, 7), Ok(Told::Altered(2))),
-    (Press::Column([2, 0], 2, 7), Ok(Told::Altered(0))),
-    (Press::Batch(&[1, 1, 1, 7]), ONE_CELL),
-    (Press::Batch(&[0; 68]), Err(Refusal::ManyGroups)),
-    (Press::Undo, Ok(Told::Altered(1))),
-    (Press::Checkpoint("walls"), Ok(Told::Nothing)),
-    (Press::Checkpoint("Walls"), Err(Refusal::Name)),
-    (Press::Restore("walls"), Err(Refusal::UnknownName)),
-    (Press::Restore("Walls"), Err(Refusal::Name)),
-];
-
-/// A child's map with its press.
-fn child(seed: u32, file: &[u8]) -> Result<Tablet, String> {
-    let config = Config {
-        seed,
-        sea_level: 4096,
-        world_height_blocks: 256,
-        chunk_size: 2,
-    };
-    let (cx, cy, cz) = (0, 128, 0);
-    let mut tablet = fresh(config, Pos { cx, cy, cz })?;
-    let list = [(Press::Set([0, 0, 0], 9), Ok(Told::Replaced(5)))];
-    replay("a child", &mut tablet, &list)?;
-    check(
-        tablet.map() == (tablet.session, &[9, 5, 5, 5, 5, 5, 5, 5], file),
-        "a child's map and file",
-    )?;
-    Ok(tablet)
-}
-
-/// Every press is refused so, and record, cells and journal are as they were.
-fn all_refused(what: &str, tablet: &Tablet, refusal: Refusal) -> Result<(), String> {
-    let mut lent = tablet.clone();
-    for (k, (press, _)) in (1..).zip(&OWN_FILE) {
-        tells(what, k, press, lent.press(press), Err(refusal))?;
-        check(
-            lent == *tablet,
-            &format!("{what}, press {k}, {press:?}: nothing changes"),
-        )?;
-    }
-    Ok(())
-}
-
-/// A host mixes two children's files up: each press is refused with `OtherMap`, before its other causes but `Record`,
-/// and nothing is lost. With its own file it answers as ever.
-fn mixed_up() -> Result<(), String> {
-    let [(seed, file), (other_seed, other_file)] = CHILDREN;
-    let (mut first, mut second) = (child(seed, file)?, child(other_seed, other_file)?);
-    mem::swap(&mut first.journal, &mut second.journal);
-    all_refused("the second child's file", &first, Refusal::OtherMap)?;
-    all_refused("the first child's file", &second, Refusal::OtherMap)?;
-    let mut full = first.clone();
-    full.journal.truncate(full.session.used);
-    all_refused("no space in another's file", &full, Refusal::OtherMap)?;
-    // A record that is not valid either, and a count that the set would move below 0.
-    let mut invalid = first.clone();
-    invalid.session.count = 9;
-    all_refused("an invalid record", &invalid, Refusal::Record)?;
-    invalid.session.count = 0;
-    let list = [(Press::Set([0, 0, 0], 0), Err(Refusal::Record))];
-    replay("a count that goes below 0", &mut invalid, &list)?;
-    mem::swap(&mut first.journal, &mut second.journal);
-    for (k, press) in OWN_FILE.iter().enumerate() {
-        let list = format!("its own file, {}", k + 1);
-        replay(&list, &mut first.clone(), slice::from_ref(press))?;
-        replay(&list, &mut second.clone(), slice::from_ref(press))?;
-    }
-    other_first_line(&first)?;
-    used_bytes(&first)
-}
-
-/// Its own file, but the used bytes end inside the first line, or a byte of it is another.
-fn other_first_line(own: &Tablet) -> Result<(), String> {
-    for i in 0..CHILD_LINE {
-        let (mut cut, mut changed) = (own.clone(), own.clone());
-        cut.session.used = i;
-        all_refused(&format!("{i} used bytes"), &cut, Refusal::OtherMap)?;
-        changed.journal[i] ^= 1;
-        all_refused(&format!("byte {i} is another"), &changed, Refusal::OtherMap)?;
-    }
-    Ok(())
-}
-
-/// Where the first line is right, and what follows is not the record's. An edit does not read it.
-const NOT_ITS_LINES: [(Press, Answer); 6] = [
-    (Press::Undo, Err(Refusal::UsedBytes)),
-    (Press::Checkpoint("walls"), Err(Refusal::UsedBytes)),
-    (Press::Checkpoint("Walls"), Err(Refusal::Name)),
-    (Press::Restore("walls"), Err(Refusal::UsedBytes)),
-    (Press::Restore("Walls"), Err(Refusal::Name)),
-    (Press::Set([0, 0, 0], 7), Ok(Told::Replaced(9))),
-];
-
-/// Another number of active edits, a last line that is not whole, a bad line.
-fn used_bytes(own: &Tablet) -> Result<(), String> {
-    let (mut fewer, mut cut, mut bad) = (own.clone(), own.clone(), own.clone());
-    fewer.session.used = CHILD_LINE;
-    replay("no edit in the journal", &mut fewer, &NOT_ITS_LINES)?;
-    cut.session.used -= 1;
-    replay("a last line without its LF", &mut cut, &NOT_ITS_LINES)?;
-    bad.journal[CHILD_LINE] = b'T';
-    replay("a line with another letter", &mut bad, &NOT_ITS_LINES)
 }
 
 /// Eight cells, how many ids they hold, and the two lists after a tally.
@@ -1038,7 +919,6 @@ fn run() -> Result<usize, String> {
     older()?;
     checkpoints()?;
     many()?;
-    mixed_up()?;
     tallies()?;
     viewer()?;
     planes()?;

@@ -102,9 +102,6 @@ pub const PL_NAMES_MOST: usize = 16;
 pub const PL_PLANES_SIZE: u32 = 28;
 pub const PL_PLANES_BYTES: u32 = 29;
 
-// Sessions: why a call was refused that got another map's journal.
-pub const PL_OTHER_MAP: u32 = 30;
-
 // Sessions.
 extern "C" {
     pub fn pl_session_fresh(
