@@ -1,4 +1,6 @@
 // The integer hashes of noise.rs.
+#![tactic(auto)]
+
 ghost use Rattle.std.specs.Prelude.{◌≡◌};
 ghost use Rattle.noise_hash.specs.Hash.{unit31, hash2₃₂, hash3₃₂};
 

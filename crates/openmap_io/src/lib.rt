@@ -1,52 +1,74 @@
 // Standard input read to its end (SCOPE 11.1), and a text written whole to standard output. A call that a signal interrupted is made again, one that
 // moved a part goes on behind it, and one that failed is not taken for the end of the input (SCOPE 11.5).
+#![tactic(auto)]
+
 ghost use Rattle.std.specs.Prelude.{◌≡◌, ◌+◌, ◌<◌, length};
-ghost use Rattle.libc.specs.Io.{Moved};
-ghost use Rattle.openmap_io.specs.Steps.{step_of, reading_of, Reaches, ReadOn, Held};
+ghost use Rattle.openmap_io.specs.Steps.{Moved, step_of, reading_of, Reaches, ReadOn, Held};
+
+use std::io::{ErrorKind, Input, Print, Read};
+use std::{fmt, io};
 
 // How far a reading or a writing is after a call: it goes on at a byte, or the call moved nothing, or it failed.
 #[derive(Drop)]
 enum Step {
     At(usize),
     End,
-    Failed,
+    Failed(io::Error),
+}
+
+// Why a reading or a writing failed: by the error of a call, or because the calls came to nothing, as a write that took no byte.
+#[derive(Clone, Copy)]
+pub enum Failure {
+    Call(io::Error),
+    Stuck,
+}
+
+impl fmt::Display for Failure {
+    fn fmt<W: fmt::Write>(&self, f: &mut fmt::Formatter<W>) -> fmt::Result {
+        match self {
+            Failure::Call(error) => write!(f, "{error}"),
+            Failure::Stuck => write!(f, "no byte was moved"),
+        }
+    }
 }
 
 // What a reading came to: the input to its end, or to the end of the room for it; or a read that failed.
 #[derive(Drop)]
 pub enum Reading {
     Whole(usize),
-    Failed,
+    Failed(Failure),
 }
 
-// By the answer of a call on the part of a buffer that begins at `at`, and by errno. An interrupted call is made again.
-fn step_by(at: usize, answer: isize, error: i32, part: &[u8]) -> Step
+// By the answer of a call on the part of a buffer that begins at `at`. An interrupted call is made again.
+fn step_by(at: usize, answer: io::Result<usize>, part: &[u8]) -> Step
     requires moved { Moved (length part.now) answer }
     requires part_bound { at + length part.now < 9223372036854775808 }
-    ensures { result ≡ step_of at answer error }
+    ensures { result ≡ step_of at answer }
 {
-    if answer < 0 {
-        if error == libc::EINTR {
-            return Step::At(at);
+    match answer {
+        Err(error) => {
+            if error.kind() == ErrorKind::Interrupted {
+                return Step::At(at);
+            }
+            return Step::Failed(error);
         }
-        return Step::Failed;
+        Ok(n) => {
+            if n == 0 {
+                return Step::End;
+            }
+            Step::At(at + n)
+        }
     }
-    let n = io::count(answer, part);
-    if n == 0 {
-        return Step::End;
-    }
-    Step::At(at + n)
 }
 
 // One call of read, into the bytes from `at` on; those before stay.
-fn read_some(journal: &mut [u8], at: usize) -> Step
+fn read_some<R: Read>(input: &mut R, journal: &mut [u8], at: usize) -> Step
     requires { at < length journal.old }
     ensures { ReadOn journal.old at result journal.new }
 {
     let part = &mut journal[at..];
-    let answer = libc::read(libc::STDIN_FILENO, part);
-    let error = os::errno();
-    step_by(at, answer, error, part)
+    let answer = input.read(part);
+    step_by(at, answer, part)
 }
 
 // What a reading came to whose last call left it so, with `at` bytes read.
@@ -55,23 +77,24 @@ fn reading_by(at: usize, step: Step) -> Reading
 {
     match step {
         Step::End => Reading::Whole(at),
-        Step::Failed => Reading::Failed,
-        Step::At(_) => Reading::Failed,
+        Step::Failed(error) => Reading::Failed(Failure::Call(error)),
+        Step::At(_) => Reading::Failed(Failure::Stuck),
     }
 }
 
 // Reads until the input ends or the room is full. Nothing says that calls move bytes, so the turns are counted down, from a
 // number that no run uses up; a run that did would have failed.
-pub fn read_journal(journal: &mut [u8]) -> Reading
+pub fn read_journal(rt: &impl Input, journal: &mut [u8]) -> Reading
     ensures { Held result journal.new }
 {
+    let mut input = rt.reader();
     let mut at = 0;
     let mut turns = u64::MAX;
     while at < journal.len() {
         if turns == 0 {
-            return Reading::Failed;
+            return Reading::Failed(Failure::Stuck);
         }
-        let step = read_some(journal, at);
+        let step = read_some(&mut input, journal, at);
         let Step::At(next) = step else {
             return reading_by(at, step);
         };
@@ -82,29 +105,29 @@ pub fn read_journal(journal: &mut [u8]) -> Reading
 }
 
 // One call of write, of the bytes from `at` on.
-fn write_some(text: &[u8], at: usize) -> Step
+fn write_some(rt: &impl Print, text: &[u8], at: usize) -> Step
     requires { at < length text.now }
     ensures { Reaches at (length text.now) result }
 {
     let part = &text[at..];
-    let answer = libc::write(libc::STDOUT_FILENO, part);
-    let error = os::errno();
-    step_by(at, answer, error, part)
+    let answer = rt.write_some(part);
+    step_by(at, answer, part)
 }
 
-// Writes all of the text and answers true; or false where a write failed or took nothing.
-pub fn write_text(text: &[u8]) -> bool {
+// Writes all of the text; or fails where a write failed or took nothing.
+pub fn write_text(rt: &impl Print, text: &[u8]) -> Result<(), Failure> {
     let mut at = 0;
     let mut turns = u64::MAX;
     while at < text.len() {
         if turns == 0 {
-            return false;
+            return Err(Failure::Stuck);
         }
-        let Step::At(next) = write_some(text, at) else {
-            return false;
-        };
-        at = next;
+        match write_some(rt, text, at) {
+            Step::At(next) => at = next,
+            Step::End => return Err(Failure::Stuck),
+            Step::Failed(error) => return Err(Failure::Call(error)),
+        }
         turns -= 1;
     }
-    true
+    Ok(())
 }

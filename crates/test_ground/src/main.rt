@@ -2,34 +2,43 @@
 // world height, size and the three numbers of a place. The program lays that chunk and writes a
 // line: the number of cells that are not air, a checksum of the cells, and all cells of a small
 // chunk. The expected output was made by the original.
+#![tactic(auto)]
+
 ghost use Rattle.std.specs.Prelude.{◌≤◌};
 
 use config::{ChunkPos, TerrainConfig};
 use ground::Generated;
+use std::io;
+use std::io::Print;
 
 fn index(n: u32) -> usize {
     n as usize
 }
 
 // The line of a chunk. Sizes up to 5 have at most 125 cells.
-fn answer(count: u32, cells: &[u16]) {
-    io::print_decimal(1, count as u64);
-    test_vectors::show_next(test_vectors::checksum(cells) as u64);
+fn answer(rt: &impl Print, count: u32, cells: &[u16]) -> io::Result<()> {
+    print!(rt; "{count}")?;
+    test_vectors::show_next(rt, test_vectors::checksum(cells) as u64)?;
     if cells.len() <= 125 {
-        test_vectors::show_ids(cells);
+        test_vectors::show_ids(rt, cells)?;
     }
-    io::write_all(1, &[b'\n']);
+    println!(rt)
 }
 
-fn lay(config: TerrainConfig, pos: ChunkPos, cells: &mut [u16]) {
+fn lay(
+    rt: &impl Print,
+    config: TerrainConfig,
+    pos: ChunkPos,
+    cells: &mut [u16],
+) -> io::Result<()> {
     match ground::generate(config, pos, cells) {
-        Generated::Count(n) => answer(n, cells),
-        Generated::Refused(_) => refused(),
+        Generated::Count(n) => answer(rt, n, cells),
+        Generated::Refused(_) => refused(rt),
     }
 }
 
-fn refused() {
-    io::write_all(1, b"refused\n");
+fn refused(rt: &impl Print) -> io::Result<()> {
+    println!(rt; "refused")
 }
 
 fn volume(size: usize) -> usize
@@ -40,19 +49,18 @@ fn volume(size: usize) -> usize
 }
 
 // Lays a chunk in the first n cells of a fresh array.
-fn lay_in(config: TerrainConfig, pos: ChunkPos, n: usize)
+fn lay_in(rt: &impl Print, config: TerrainConfig, pos: ChunkPos, n: usize) -> io::Result<()>
     requires { n ≤ 262144 }
 {
     let mut cells = test_vectors::room();
-    lay(config, pos, &mut cells[..n]);
+    lay(rt, config, pos, &mut cells[..n])
 }
 
 // Lays the chunk of one line.
-fn chunk(list: &[u32; 7]) {
+fn chunk(rt: &impl Print, list: &[u32; 7]) -> io::Result<()> {
     let size = index(list[3]);
     if size > 64 {
-        refused();
-        return;
+        return refused(rt);
     }
     let config = TerrainConfig {
         seed: list[0],
@@ -65,30 +73,31 @@ fn chunk(list: &[u32; 7]) {
         cy: num_core::wrap::of_bits(list[5]),
         cz: num_core::wrap::of_bits(list[6]),
     };
-    lay_in(config, pos, volume(size));
+    lay_in(rt, config, pos, volume(size))
 }
 
 // Answers the line that begins at a position, and where the next one begins.
-fn row(text: &[u8], from: usize) -> usize {
+fn row(rt: &impl Print, text: &[u8], from: usize) -> io::Result<usize> {
     let mut list = [0u32; 7];
     let next = test_vectors::seven(text, from, &mut list);
-    chunk(&list);
-    next
+    chunk(rt, &list)?;
+    Ok(next)
 }
 
-fn rows(text: &[u8]) {
+fn rows(rt: &impl Print, text: &[u8]) -> io::Result<()> {
     let mut at = 0;
     while at < text.len() {
-        let next = row(text, at);
+        let next = row(rt, text, at)?;
         if next <= at {
-            return;
+            return Ok(());
         }
         at = next;
     }
+    Ok(())
 }
 
-fn main() {
-    let mut text = io::large_buffer();
-    let n = io::read_full(0, &mut text);
-    rows(&text[..n]);
+fn main(rt: HostRuntime) -> io::Result<()> {
+    let mut text = test_vectors::text_room();
+    let n = test_vectors::read_text(&rt, &mut text)?;
+    rows(&rt, &text[..n])
 }

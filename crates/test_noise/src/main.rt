@@ -2,6 +2,10 @@
 // the bits of three f32 numbers and a number of octaves. The program writes a line for each: the
 // bits of hash2, hash3, noise2d, noise3d, fbm2d and fbm3d there. The expected output was made by
 // the original.
+#![tactic(auto)]
+
+use std::io;
+use std::io::Print;
 
 // The bits of a float, those of one NaN for all: Rust does not fix a NaN's.
 fn bits(v: f32) -> u32 {
@@ -17,49 +21,57 @@ fn float(n: u32) -> f32 {
     }
 }
 
-fn show(v: f32, after: u8) {
-    io::print_decimal(1, bits(v) as u64);
-    io::write_all(1, &[after]);
+fn show(rt: &impl Print, v: f32, after: char) -> io::Result<()> {
+    let n = bits(v);
+    print!(rt; "{n}{after}")
 }
 
-fn hashes(x: i32, y: i32, z: i32) {
-    show(noise::hash2(x, y), b' ');
-    show(noise::hash3(x, y, z), b' ');
+fn hashes(rt: &impl Print, x: i32, y: i32, z: i32) -> io::Result<()> {
+    show(rt, noise::hash2(x, y), ' ')?;
+    show(rt, noise::hash3(x, y, z), ' ')
 }
 
-fn noises(x: f32, y: f32, z: f32, octaves: u32) {
-    show(noise::noise2d(x, y), b' ');
-    show(noise::noise3d(x, y, z), b' ');
-    show(noise::fbm2d(x, y, octaves), b' ');
-    show(noise::fbm3d(x, y, z, octaves), b'\n');
+fn noises(rt: &impl Print, x: f32, y: f32, z: f32, octaves: u32) -> io::Result<()> {
+    show(rt, noise::noise2d(x, y), ' ')?;
+    show(rt, noise::noise3d(x, y, z), ' ')?;
+    show(rt, noise::fbm2d(x, y, octaves), ' ')?;
+    show(rt, noise::fbm3d(x, y, z, octaves), '\n')
 }
 
 // Answers the line that begins at a position, and where the next one begins.
-fn row(text: &[u8], from: usize) -> usize {
+fn row(rt: &impl Print, text: &[u8], from: usize) -> io::Result<usize> {
     let mut list = [0u32; 7];
     let next = test_vectors::seven(text, from, &mut list);
     hashes(
+        rt,
         num_core::wrap::of_bits(list[0]),
         num_core::wrap::of_bits(list[1]),
         num_core::wrap::of_bits(list[2]),
-    );
-    noises(float(list[3]), float(list[4]), float(list[5]), list[6]);
-    next
+    )?;
+    noises(
+        rt,
+        float(list[3]),
+        float(list[4]),
+        float(list[5]),
+        list[6],
+    )?;
+    Ok(next)
 }
 
-fn rows(text: &[u8]) {
+fn rows(rt: &impl Print, text: &[u8]) -> io::Result<()> {
     let mut at = 0;
     while at < text.len() {
-        let next = row(text, at);
+        let next = row(rt, text, at)?;
         if next <= at {
-            return;
+            return Ok(());
         }
         at = next;
     }
+    Ok(())
 }
 
-fn main() {
-    let mut text = io::large_buffer();
-    let n = io::read_full(0, &mut text);
-    rows(&text[..n]);
+fn main(rt: HostRuntime) -> io::Result<()> {
+    let mut text = test_vectors::text_room();
+    let n = test_vectors::read_text(&rt, &mut text)?;
+    rows(&rt, &text[..n])
 }

@@ -1,7 +1,13 @@
 // What programs share that replay a list of answers: reading the numbers of their input, lines of
 // decimal numbers separated by one byte, each taken modulo 2^32 so that no input is refused; cells to
 // work on, their checksum, and showing them.
-ghost use Rattle.std.specs.Prelude.{◌≡◌, length};
+#![tactic(auto)]
+
+ghost use Rattle.std.specs.Prelude.{◌≡◌, ◌≤◌, IfOk, length};
+
+use openmap_io::{Failure, Reading, read_journal};
+use std::io;
+use std::io::{ErrorKind, Input, Print};
 
 // A number's bits, and where the byte after it stands.
 #[derive(Drop)]
@@ -69,6 +75,24 @@ pub fn seven(text: &[u8], from: usize, list: &mut [u32; 7]) -> usize {
     at
 }
 
+// Room for a text.
+pub fn text_room() -> [u8; 65536]
+    ensures { 65536 ≡ length result }
+{
+    [0; 65536]
+}
+
+// Reads standard input until it ends or the room is full, and answers how many bytes it put at the start of the room.
+pub fn read_text(rt: &impl Input, text: &mut [u8]) -> io::Result<usize>
+    ensures { IfOk result (λ n. n ≤ length text.new) }
+{
+    match read_journal(rt, text) {
+        Reading::Whole(n) => Ok(n),
+        Reading::Failed(Failure::Call(error)) => Err(error),
+        Reading::Failed(Failure::Stuck) => Err(io::Error::from(ErrorKind::TimedOut)),
+    }
+}
+
 // Room for the cells of the largest chunk.
 pub fn room() -> [u16; 262144]
     ensures { 262144 ≡ length result }
@@ -97,16 +121,16 @@ pub fn checksum(cells: &[u16]) -> u32 {
 }
 
 // Writes a blank and a number.
-pub fn show_next(n: u64) {
-    io::write_all(1, b" ");
-    io::print_decimal(1, n);
+pub fn show_next(rt: &impl Print, n: u64) -> io::Result<()> {
+    print!(rt; " {n}")
 }
 
 // Writes a blank and a number for each id.
-pub fn show_ids(ids: &[u16]) {
+pub fn show_ids(rt: &impl Print, ids: &[u16]) -> io::Result<()> {
     let mut i = 0;
     while i < ids.len() {
-        show_next(wide_id(ids[i]) as u64);
+        show_next(rt, wide_id(ids[i]) as u64)?;
         i += 1;
     }
+    Ok(())
 }
