@@ -1,5 +1,7 @@
 // Sums of octaves of value noise, and the hashes and the noise below them: the port of noise.rs. Every f32 operation
 // stands in its order.
+#![tactic(auto)]
+
 ghost use Rattle.std.specs.Prelude.{◌≡◌};
 ghost use Rattle.noise.specs.Noise.{fbm2d₃₂, fbm3d₃₂};
 

@@ -1,4 +1,6 @@
 // Hash-based value noise: the noise of one octave of noise.rs. Every f32 operation stands in its order.
+#![tactic(auto)]
+
 ghost use Rattle.std.specs.Prelude.{◌≡◌};
 ghost use Rattle.noise_lattice.specs.Noise.{smooth₃₂, lerp₃₂, square₃₂, noise2d₃₂, layer₃₂, noise3d₃₂};
 
