@@ -1,4 +1,6 @@
 // Block ids, and which block a cell below the surface is: block.rs, and `select_block` of terrain.rs.
+#![tactic(auto)]
+
 ghost use Rattle.std.specs.Prelude.{◌≡◌, ◌-ℤ◌};
 ghost use Rattle.ground_blocks.specs.Blocks.{desert_block, snow_patch, mountain_top, mountain_block, shore_block, forest_block, plains_block, select_block};
 
