@@ -14,6 +14,7 @@ use Rattle.noise.specs.Noise.{lerp₃₂, next}
 use Rattle.noise_tables.specs.Row.{at}
 use Rattle.noise_layers.specs.Layers.{edge₃₂, edge_at, Hashes, laid_none, laid_more}
 use Rattle.noise_layers.proofs.Rows.{laid_same}
+use Rattle.noise_layers.proofs.edge_row.Goals.{then-next-at, else-next-at}
 use Rattle.noise_layers.proofs.edge_row.Goals as goal
 
 pub offset_bounds-floors-base : goal.offset_bounds-floors-base
@@ -227,15 +228,15 @@ loop-i-preserved c =
     let x = get_or c.args.floors.now (c.args.base + l.i) 0 in
     let j = c.if-next-at in
     let k : (j.at ≡ x) × Hashes iy iz x j.a j.b =
-    ⊎_elim
-    (λ w.
-    let ix = read w32 w.1.ok w.1.ensures in
-    let jx = read w32 w.4.ok (w.4.ensures ∙ ap next (read w32 w.3.ok w.3.ensures)) in
-    (w.6, (w.7 ∙ w.2.ensures ∙ ap (λ (u : ℤ). hash3₃₂ u iy iz) ix, w.8 ∙ w.5.ensures ∙ ap (λ (u : ℤ). hash3₃₂ u iy iz) jx)))
-    (λ w.
-    let e = sym w.0.false in
-    (w.1 ∙ e, (w.2 ∙ l.invariant.1.0 ∙ ap (λ (u : ℕ). hash3₃₂ (to_z w32 u) iy iz) e, w.3 ∙ l.invariant.1.1 ∙ ap (λ (u : ℕ). hash3₃₂ (next (to_z w32 u)) iy iz) e)))
-    j.branch in (
+    elim j.branch [
+      then-next-at w ↦
+        let ix = read w32 w.of_bits-then-next-at.type_inv w.of_bits-then-next-at.ensures in
+        let jx = read w32 w.wrapping_add-then-next-at.type_inv (w.wrapping_add-then-next-at.ensures ∙ ap next (read w32 w.of_bits-then-next-at-2.type_inv w.of_bits-then-next-at-2.ensures)) in
+        (w.at-is, (w.a-is ∙ w.hash3-a-then-next-at.ensures ∙ ap (λ (u : ℤ). hash3₃₂ u iy iz) ix, w.b-is ∙ w.hash3-b-then-next-at.ensures ∙ ap (λ (u : ℤ). hash3₃₂ u iy iz) jx))
+    | else-next-at w ↦
+        let e = sym w.if-next-at.false in
+        (w.at-is ∙ e, (w.a-is ∙ l.invariant.1.0 ∙ ap (λ (u : ℕ). hash3₃₂ (to_z w32 u) iy iz) e, w.b-is ∙ l.invariant.1.1 ∙ ap (λ (u : ℕ). hash3₃₂ (next (to_z w32 u)) iy iz) e))
+    ] in (
       omega arith,
       subst (λ (u : ℕ). Hashes iy iz u j.a j.b) (sym k.0) k.1,
       laid_more c.args.to (edge_at iy iz c.args.base c.args.floors.now c.args.eases.now) c.args.edges.now l.i l.edges _ (omega arith)
