@@ -1,5 +1,5 @@
 use mathlib.Core.Path.{◌≡◌, refl, ◌∙◌}
-use Prim.Native.Nat.{◌-◌, ◌≤◌, ◌<◌}
+use Prim.Native.Nat.{◌≤◌, ◌<◌}
 use native.Mathlib.Omega.{arith}
 use lib.Ieee.{of_bits}
 use Rattle.num_core.specs.Num.{nearest}
@@ -51,14 +51,10 @@ loop-preserved c =
     let a = c.args in
     let l = c.loop in
     let t = c.loop-test.true in
-    (omega arith, c.vals-in-loop-1.given ∙ l.invariant.1, going_more a.y a.octaves a.base a.n a.floors.now a.eases.now l.counter l.vals _ l.amp l.freq l.max l.at t c.add_octave.ensures l.invariant.2)
+    (omega arith, c.add_octave.ensures.long ∙ l.invariant.1, going_more a.y a.octaves a.base a.n a.floors.now a.eases.now l.counter l.vals _ l.amp l.freq l.max l.at t c.add_octave.ensures l.invariant.2)
 
 pub divide-requires : goal.divide-requires
 divide-requires c = (c.requires.2, c.loop.invariant.2.long)
-
-pub shape_of-vals : goal.shape_of-vals
-shape_of-vals c =
-    c.vals-2-1.given ∙ c.loop.invariant.1 ∙ c.vals-1.given
 
 pub returns : goal.returns
 returns c =

@@ -1,4 +1,3 @@
-use Prim.Native.Nat.{◌-◌}
 use native.Mathlib.Omega.{arith}
 use Rattle.noise_rows.proofs.Runs.{run_one, run_more}
 use Rattle.noise_rows.proofs.run_end.Goals as goal
