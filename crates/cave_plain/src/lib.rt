@@ -1,5 +1,7 @@
 // Where the ground is hollow: the caves of terrain.rs. They do not take the seed. `cave` and what it calls is the plain form, a cell at a time, which
 // nothing calls: `cave_rows` works caves out by rows and levels, equal to the same definition, and `cave_ravines` calls `ravine_with` alone.
+#![tactic(auto)]
+
 ghost use Rattle.std.specs.Prelude.{◌≡◌};
 ghost use Rattle.cave_plain.specs.Caves.{spaghetti_cave, large_cavern, ravine_with, ravine_here, ravine_cut, carved};
 

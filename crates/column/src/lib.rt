@@ -1,5 +1,7 @@
 // The height and the biome of a column of the world: `get_biome` of terrain.rs. With `climate` and `relief_at` it is the plain form, a column at a
 // time, which nothing calls: `column_tops` notes a chunk's columns by rows and tables, equal to the same definitions, and takes `surface_of` alone.
+#![tactic(auto)]
+
 ghost use Rattle.std.specs.Prelude.{◌≡◌};
 ghost use Rattle.column.specs.Column.{relief_of, climate_of, weights_of, heights_of, blend₃₂, dominant_of, height_of, surface_of, biome_and_height};
 

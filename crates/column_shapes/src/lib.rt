@@ -1,5 +1,7 @@
 // The noise and the curves that a column's climate and heights are made of: what `get_biome` of terrain.rs begins with. `offset_fbm`, `scaled_fbm`,
 // `ridges` and `continent` are of its plain form alone; rows of columns (`column_rows`) have theirs, equal to the same definitions.
+#![tactic(auto)]
+
 ghost use Rattle.std.specs.Prelude.{◌≡◌};
 ghost use Rattle.column_shapes.specs.Shapes.{offset_fbm₃₂, scaled_fbm₃₂, smooth_ramp₃₂, ridge₃₂, ridges_of, ridges₃₂};
 ghost use Rattle.column_shapes.specs.Shapes.{plateau₃₂, continent₃₂, hill_boost₃₂, cold_boost₃₂, clamp_of};
