@@ -4,9 +4,11 @@ use Rattle.std.proofs.Common.{sym, ap, ap₂, ◌∙◌}
 use Rattle.config.specs.Answers.{accepted, CellsOutcome, cells_outcome}
 use Rattle.planes.specs.Order.{volume}
 use Rattle.planes.specs.Planes.{bits_of, planes_of, cells_of, planes_refusal, PlanesOutcome, planes_outcome}
-use Rattle.planes.specs.Planes.{to_planes_does, from_planes_does, Bytes, to_accepted, from_accepted}
-use Rattle.planes.specs.Undo.{planes_length, cells_length, cells_planes, planes_cells}
-use Rattle.planes.specs.Sizes.{Fit, planes_passed, cells_all, bytes_all}
+use Rattle.planes.specs.Planes.{to_planes_does, from_planes_does, Bytes}
+use Rattle.planes.proofs.Planes.{to_accepted, from_accepted}
+use Rattle.planes.proofs.Undo.{planes_length, cells_length, cells_planes, planes_cells}
+use Rattle.planes.specs.Sizes.{Fit}
+use Rattle.planes.proofs.Sizes.{planes_passed, cells_all, bytes_all}
 
 module _ (size : ℕ) (c b : List ℕ) (fine : planes_refusal size (length c) (length b) ≡ 0) where
   fit : Fit size (length c) (length b)

@@ -5,7 +5,7 @@ use Rattle.std.proofs.Math.ListN.{get_or-append}
 use Rattle.basics.specs.Naturals.{split}
 use Rattle.grid.specs.Grid.{tab_length, tab_at}
 use Rattle.planes.specs.Order.{cell_at, position_of, volume}
-use Rattle.planes.specs.Bijection.{position_cell, cell_position, cell_lt, position_lt}
+use Rattle.planes.proofs.Bijection.{position_cell, cell_position, cell_lt, position_lt}
 use Rattle.planes.specs.Planes.{low_plane, high_plane, planes_of, cells_of, Bytes}
 
 -- ---- what stands at a place

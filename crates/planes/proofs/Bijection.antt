@@ -9,7 +9,7 @@ use Rattle.std.proofs.Math.Nat.{mul-mul-mul_comm, div-div-eq-div-mul}
 use Rattle.grid.specs.Cube.{cell_index}
 use Rattle.grid.specs.Grid.{digits, index_lt, index_x, index_y, index_z, below}
 use Rattle.planes.specs.Order.{spread, morton_of, third, cell_at, position_of, volume}
-use Rattle.planes.specs.Rule.{double, morton_step, morton_left}
+use Rattle.planes.proofs.Rule.{double, morton_step, morton_left}
 
 -- ---- powers
 
