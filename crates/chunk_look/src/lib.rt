@@ -1,5 +1,7 @@
 // The cells of a chunk, borrowed: reading a cell and asking about all of them. Arguments that a call does
 // not take are refused with the cause's number (SCOPE 10.2).
+#![tactic(auto)]
+
 ghost use Rattle.std.specs.Prelude.{◌≡◌};
 ghost use Rattle.chunk.specs.Replies.{says_id, says_flag};
 ghost use Rattle.chunk_look.specs.Calls.{chunk_get_does, chunk_is_air_does, chunk_is_empty_does, chunk_is_solid_does};

@@ -1,4 +1,6 @@
 // Morton positions by blocks of 64, cubes of 4 by 4 by 4 cells: a table of one block's cells gives the cell at any position.
+#![tactic(auto)]
+
 ghost use Rattle.std.specs.Prelude.{◌≡◌, ◌≤◌, ◌<◌, length};
 ghost use Rattle.grid.specs.Cube.{tab};
 ghost use Rattle.planes_blocks.specs.Blocks.{block_cell, first_by, Table};

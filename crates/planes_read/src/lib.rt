@@ -1,4 +1,6 @@
 // Restores a chunk's cells from two planes of bytes, a block of 64 positions at a time.
+#![tactic(auto)]
+
 ghost use Rattle.std.specs.Prelude.{◌≡◌, ℕ, ◌+◌, ◌*◌, ◌++◌, length, drop};
 ghost use Rattle.config.specs.Answers.{cells_outcome};
 ghost use Rattle.grid.specs.Cube.{tab, steps};

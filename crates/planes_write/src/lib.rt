@@ -1,4 +1,6 @@
 // Copies a chunk's cells out as two planes of bytes, a block of 64 positions at a time.
+#![tactic(auto)]
+
 ghost use Rattle.std.specs.Prelude.{◌≡◌, ℕ, ◌+◌, ◌*◌, ◌++◌, length, drop};
 ghost use Rattle.grid.specs.Cube.{tab, steps};
 ghost use Rattle.planes.specs.Planes.{bits_of, planes_of, says_copied, planes_outcome, to_planes_does};

@@ -21,11 +21,14 @@ use Rattle.journal_format.specs.Names.{name_ok}
 use Rattle.journal_format.specs.Line.{Edit, set, column, batch, header_text, edit_text, undo_text, checkpoint_text, restore_text, ended, header_of, line_of}
 use Rattle.journal_format.specs.Line.{Line, edits, undoes, checkpoints, restores, wrong}
 use Rattle.journal_format.specs.Journal.{lines, committed, Active, active, none_active, joins, drop_last, after_line, read, follow}
-use Rattle.journal_format.specs.Checkpoints.{restore_remembered}
-use Rattle.journal_format.specs.Lines.{join, committed_le, take_committed}
+use Rattle.journal_format.proofs.Checkpoints.{restore_remembered}
+use Rattle.journal_format.specs.Lines.{join}
+use Rattle.journal_format.proofs.Lines.{committed_le, take_committed}
 use Rattle.journal_format.specs.RoundTrip.{EditOk}
-use Rattle.journal_format.specs.Batches.{batch_args, batch_args_lem, batch_given}
-use Rattle.journal_format.specs.Writer.{said_text, LineOk, AllLineOk, on_some, after_all, follow_said}
+use Rattle.journal_format.specs.Batches.{batch_args}
+use Rattle.journal_format.proofs.Batches.{batch_args_lem, batch_given}
+use Rattle.journal_format.specs.Writer.{said_text, LineOk, AllLineOk, on_some, after_all}
+use Rattle.journal_format.proofs.Writer.{follow_said}
 use Rattle.session_calls.specs.Asked.{Asked, asks, clip, set_asks, column_asks, batch_line, batch_asks}
 use Rattle.session_calls.specs.Record.{size_of, header_of_record}
 use Rattle.session_calls.specs.Calls.{resumed, config_of, pos_of, session_reopen_does}

@@ -6,8 +6,9 @@ use Rattle.std.proofs.Common.{sym, ◌∙◌, ap, subst, arith}
 use Rattle.config.specs.Limits.{config_header}
 use Rattle.journal_format.specs.Line.{header_text}
 use Rattle.journal_format.specs.Journal as J
-use Rattle.journal_format.specs.Lines.{NoLF, no_lf_append}
-use Rattle.journal_format.specs.RoundTrip.{header_no_lf}
+use Rattle.journal_format.specs.Lines.{NoLF}
+use Rattle.journal_format.proofs.Lines.{no_lf_append}
+use Rattle.journal_format.proofs.RoundTrip.{header_no_lf}
 use Rattle.session_calls.specs.Calls.{Outcome, Recorded, Begun, session_fresh_does, Resumed, resumed}
 use Rattle.session_calls.specs.Checkpoints.{beside_cells}
 use Rattle.session_calls.specs.declared.Reply.{Reply}
