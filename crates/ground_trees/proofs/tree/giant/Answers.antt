@@ -3,12 +3,8 @@ use mathlib.Core.Path.{refl}
 use lib.Ieee.{of_bits}
 use Rattle.num_core.specs.Num.{nearest}
 use Rattle.ground_trees.specs.Features.{is_giant}
-use Rattle.ground_trees.proofs.tree.giant.Statement.{statement}
-use Rattle.ground_trees.proofs.tree.giant.Tie as tie
+use Rattle.ground_trees.proofs.tree.giant.Goals as goal
 
-returns : tie.Need-returns
+pub returns : goal.returns
 unfolding is_giant nearest of_bits
 returns c = refl
-
-pub giant_spec : {M : Type 1} → statement M
-giant_spec = tie.close (tie.spec returns)
