@@ -85,6 +85,7 @@ class Turn:
             if pair[0]:
                 self.labels[norm(pair[0])] = pair[1]
         self.places = {norm(p[0]): n for p, n in zip(names["places"], names["places_by_name"])}
+        self.callee = {pair[1]: fn for old, parent, pair, fn, rest in names["places"] if fn}
         self.parent = {n: None for n in names["places_by_name"]}
         index = {p[0]: n for p, n in zip(names["places"], names["places_by_name"])}
         for p, n in zip(names["places"], names["places_by_name"]):
@@ -130,10 +131,20 @@ class Turn:
         if k < len(parts):
             if parts[k] in ("args", "requires", "ranges", "well-formed", "well_formed", "lifetimes", "type-inv", "type_inv"):
                 new = parts[k].replace("-", "_")
-            else:
+            elif k or root in self.env or root == ")" or root == "c":
                 new = self.label(parts[k])
+            else:
+                new = None
             if new and (k or parts[k] in ("args", "requires", "ranges") or root == "" or True):
                 parts = [new] + parts[k + 1 :]
+        # what a call left in a borrowed parameter goes by the parameter's name
+        params = self.names.get("params", {}).get(self.callee.get(parts[0]) or "", [])
+        if len(parts) > 2 and parts[1] in ("new", "auto") and params:
+            n = 0
+            while 2 + n < len(parts) and parts[2 + n] == "1":
+                n += 1
+            if 2 + n < len(parts) and parts[2 + n] == "0" and n < len(params):
+                parts = parts[:2] + [params[n]] + parts[3 + n :]
         if root not in self.labels:
             parts = [{"taken": "true", "left": "false"}.get(p, p) if i == 1 and parts[0].isdigit() else p for i, p in enumerate(parts)]
         parts = [p.replace("type-inv", "type_inv").replace("well-formed", "well_formed") for p in parts]
@@ -430,6 +441,8 @@ class Turn:
             raise Stop(f"{a} has {params}, the loop has {vars} {changed}")
         to = {p: w for p, (v, w) in zip(params, want) if p != "_"}
         body = re.sub(r"(?<![\w'\-.₀-₉])[^\W\d][\w'₀-₉]*(?:-[\w']+)*(?![\w'\-₀-₉])", lambda m: to.get(m[0], m[0]), body)
+        # a signed number is a number of ℤ in today's loops
+        body = re.sub(r"\(to_z w(?:8|16|32|64) (l\.[\w.']+)\)|to_z w(?:8|16|32|64) (l\.[\w.']+)", lambda m: m[1] or m[2], body)
         name = f"{kind}-{new}"
         return "\n".join(notes + [f"abbrev pub {name} : goal.{name}"] + unf + [f"{name} l ={body}"])
 

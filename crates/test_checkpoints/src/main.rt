@@ -9,24 +9,36 @@
 //   C:i     no call: the record has a count of i from here on
 // Each call, a fresh session and reopening write a line: number, altered (0 for the last two); the record's count, used bytes and active edits;
 // the cells. The journal's text stands at the end. The expected output was worked out from SCOPE, without the library.
+#![tactic(auto)]
+
+ghost use Rattle.std.specs.Prelude.{◌≤◌, length};
+
 use config::{ChunkPos, TerrainConfig};
 use host_starts::{fresh_start, reopen_start};
 use session_calls::{Edited, Session};
+use std::io;
+use std::io::Print;
 use test_vectors::{show_ids, show_next};
 
 // As long as the lines of all accepted calls.
 const JOURNAL: usize = 248;
 
 // What a call told, and the record and the cells after it.
-fn show(number: u32, altered: usize, s: Session, cells: &[u16; 8]) -> Session {
-    io::print_decimal(1, number as u64);
-    show_next(altered as u64);
-    show_next(s.count as u64);
-    show_next(s.used as u64);
-    show_next(s.active as u64);
-    show_ids(cells);
-    io::write_all(1, b"\n");
-    s
+fn show(
+    rt: &impl Print,
+    number: u32,
+    altered: usize,
+    s: Session,
+    cells: &[u16; 8],
+) -> io::Result<Session> {
+    print!(rt; "{number}")?;
+    show_next(rt, altered as u64)?;
+    show_next(rt, s.count as u64)?;
+    show_next(rt, s.used as u64)?;
+    show_next(rt, s.active as u64)?;
+    show_ids(rt, cells)?;
+    println!(rt)?;
+    Ok(s)
 }
 
 fn wide(byte: u8) -> u32 {
@@ -84,59 +96,87 @@ fn make(
 
 // Makes the call that a word says, and hands the record on.
 fn call(
+    rt: &impl Print,
     kind: u8,
     s: Session,
     cells: &mut [u16; 8],
     journal: &mut [u8; JOURNAL],
     text: &[u8],
-) -> Session {
+) -> io::Result<Session> {
     let mut next = s;
     if kind == b'A' {
         next.active = index(digit(text, 0));
-        return next;
+        return Ok(next);
     }
     if kind == b'C' {
         next.count = digit(text, 0);
-        return next;
+        return Ok(next);
     }
     let e = make(kind, s, cells, journal, text);
     let r = e.reply;
-    show(r.refusal, r.altered, e.session, cells)
+    show(rt, r.refusal, r.altered, e.session, cells)
 }
 
 // The word from a position to before another.
 fn word(
+    rt: &impl Print,
     s: Session,
     cells: &mut [u16; 8],
     journal: &mut [u8; JOURNAL],
     text: &[u8],
     at: usize,
     end: usize,
-) -> Session {
+) -> io::Result<Session> {
     if at < text.len() {
         let from = at + 2;
         if from <= end {
             if end <= text.len() {
-                return call(text[at], s, cells, journal, &text[from..end]);
+                return call(rt, text[at], s, cells, journal, &text[from..end]);
             }
         }
     }
-    s
+    Ok(s)
+}
+
+// The place of the next blank from a position on, or the text's length.
+fn blank(text: &[u8], from: usize) -> usize
+    requires { from ≤ length text.now }
+    ensures low { from ≤ result }
+    ensures high { result ≤ length text.now }
+{
+    let mut at = from;
+    while at < text.len() {
+        if text[at] == b' ' {
+            return at;
+        }
+        at += 1;
+    }
+    at
 }
 
 // The words of a text, one after the other.
-fn run(text: &[u8], first: Session, cells: &mut [u16; 8], journal: &mut [u8; JOURNAL]) -> Session {
+fn run(
+    rt: &impl Print,
+    text: &[u8],
+    first: Session,
+    cells: &mut [u16; 8],
+    journal: &mut [u8; JOURNAL],
+) -> io::Result<Session> {
     let mut s = first;
     let mut at = 0;
     while at < text.len() {
-        let end = bytes::scan::find(text, at, text.len(), b' ');
-        s = word(s, cells, journal, text, at, end);
+        let end = blank(text, at);
+        s = word(rt, s, cells, journal, text, at, end)?;
         at = end + 1;
     }
-    s
+    Ok(s)
 }
 
-fn begin(cells: &mut [u16; 8], journal: &mut [u8; JOURNAL]) -> Session {
+fn begin(
+    rt: &impl Print,
+    cells: &mut [u16; 8],
+    journal: &mut [u8; JOURNAL],
+) -> io::Result<Session> {
     let config = TerrainConfig {
         seed: 0,
         sea_level: 4096,
@@ -149,67 +189,79 @@ fn begin(cells: &mut [u16; 8], journal: &mut [u8; JOURNAL]) -> Session {
         cz: 0,
     };
     let start = fresh_start(session_fresh::fresh(config, pos, cells, journal));
-    show(start.number, 0, start.session, cells)
+    show(rt, start.number, 0, start.session, cells)
 }
 
-fn calls(first: Session, cells: &mut [u16; 8], journal: &mut [u8; JOURNAL]) {
+fn calls(
+    rt: &impl Print,
+    first: Session,
+    cells: &mut [u16; 8],
+    journal: &mut [u8; JOURNAL],
+) -> io::Result<()> {
     // The second restore alters nothing; the undo takes back the last edit that came back with it.
     let mut s = run(
+        rt,
         b"M:g0 S:0001 S:1001 M:walls S:0108 S:1100 R:walls R:walls U:",
         first,
         cells,
         journal,
-    );
+    )?;
     // A checkpoint after a restore; the bare ground, with nothing to undo; a name that is moved; names that a restore to an older one leaves.
     s = run(
+        rt,
         b"S:1019 M:roof1 R:g0 U: R:roof1 M:g0 U: R:g0 R:walls R:roof1",
         s,
         cells,
         journal,
-    );
+    )?;
     // An unknown name; no byte, a capital letter, 17 bytes.
     s = run(
+        rt,
         b"R:roof M: R: M:Roof1 R:Roof1 M:a0z9a0z9a0z9a0z9a R:a0z9a0z9a0z9a0z9a",
         s,
         cells,
         journal,
-    );
+    )?;
     // Another number of active edits: found behind a bad name, before an unknown one. A count above 8, seven cells: found before a bad name.
     s = run(
+        rt,
         b"A:9 M:walls R:walls M:Roof1 R:roof A:2 C:9 M:Roof1 R:Roof1 C:8 F:Roof1 F:walls",
         s,
         cells,
         journal,
-    );
+    )?;
     // Thirteen names beside the three that there are, and one too many.
     s = run(
+        rt,
         b"M:a0z9a0z9a0z9a0z9 M:a M:b M:c M:d M:e M:f M:g M:h M:i M:j M:k M:l M:m",
         s,
         cells,
         journal,
-    );
+    )?;
     // One of the 16 is moved. Then four bytes are left, too few for a name of two: found behind 27 and 26. The last restore fills the journal.
     run(
+        rt,
         b"S:0017 M:b S:1110 M:g0 R:g0 M:m2 R:m2 R:b M:a R:a S:0113",
         s,
         cells,
         journal,
-    );
+    )?;
+    Ok(())
 }
 
 // The next tablet holds all but the last two bytes: the last restore is lost, and another made.
-fn take_over(journal: &mut [u8; JOURNAL]) {
+fn take_over(rt: &impl Print, journal: &mut [u8; JOURNAL]) -> io::Result<()> {
     let mut cells = [0u16; 8];
     let start = reopen_start(session_reopen::reopen(&mut cells, journal, JOURNAL - 2));
-    let s = show(start.number, 0, start.session, &cells);
-    run(b"R:c", s, &mut cells, journal);
-    io::write_all(1, journal);
+    let s = show(rt, start.number, 0, start.session, &cells)?;
+    run(rt, b"R:c", s, &mut cells, journal)?;
+    rt.write_all(journal)
 }
 
-fn main() {
+fn main(rt: HostRuntime) -> io::Result<()> {
     let mut cells = [0u16; 8];
     let mut journal = [0u8; JOURNAL];
-    let s = begin(&mut cells, &mut journal);
-    calls(s, &mut cells, &mut journal);
-    take_over(&mut journal);
+    let s = begin(&rt, &mut cells, &mut journal)?;
+    calls(&rt, s, &mut cells, &mut journal)?;
+    take_over(&rt, &mut journal)
 }

@@ -4,12 +4,16 @@
 // writes a line for each: the number of the refusal or 0, the answer, and a checksum of what was lent
 // to be written, or of a tally every place of both lists. The expected output was made by the Rust
 // original, or from SCOPE 5 where the original takes no such call.
+#![tactic(auto)]
+
 ghost use Rattle.std.specs.Prelude.{◌≤◌, ◌≡◌, length};
 
 use chunk::{BlockId, Counted, Flag};
 use chunk_batch::BatchReply;
 use chunk_border::{Extracted, Face};
 use chunk_tally::Listed;
+use std::io;
+use std::io::Print;
 
 // The numbers of a line, behind the call's kind.
 #[derive(Drop)]
@@ -41,73 +45,73 @@ fn fill(cells: &mut [u16]) {
     }
 }
 
-fn show(n: u64, after: u8) {
-    io::print_decimal(1, n);
-    io::write_all(1, &[after]);
+fn show(rt: &impl Print, n: u64, after: char) -> io::Result<()> {
+    print!(rt; "{n}{after}")
 }
 
 // One line of the output.
-fn said(number: u32, value: u32, lent: &[u16]) {
-    show(number as u64, b' ');
-    show(value as u64, b' ');
-    show(test_vectors::checksum(lent) as u64, b'\n');
+fn said(rt: &impl Print, number: u32, value: u32, lent: &[u16]) -> io::Result<()> {
+    show(rt, number as u64, ' ')?;
+    show(rt, value as u64, ' ')?;
+    show(rt, test_vectors::checksum(lent) as u64, '\n')
 }
 
-fn counted(answer: Counted, cells: &[u16]) {
+fn counted(rt: &impl Print, answer: Counted, cells: &[u16]) -> io::Result<()> {
     match answer {
-        Counted::Count(n) => said(0, n, cells),
-        Counted::Refused(k) => said(k, 0, cells),
+        Counted::Count(n) => said(rt, 0, n, cells),
+        Counted::Refused(k) => said(rt, k, 0, cells),
     }
 }
 
-fn flagged(answer: Flag, cells: &[u16]) {
+fn flagged(rt: &impl Print, answer: Flag, cells: &[u16]) -> io::Result<()> {
     match answer {
-        Flag::Answer(yes) => said(0, if yes { 1 } else { 0 }, cells),
-        Flag::Refused(k) => said(k, 0, cells),
+        Flag::Answer(yes) => said(rt, 0, if yes { 1 } else { 0 }, cells),
+        Flag::Refused(k) => said(rt, k, 0, cells),
     }
 }
 
-fn named(answer: BlockId, cells: &[u16]) {
+fn named(rt: &impl Print, answer: BlockId, cells: &[u16]) -> io::Result<()> {
     match answer {
-        BlockId::Id(id) => said(0, test_vectors::wide_id(id), cells),
-        BlockId::Refused(k) => said(k, 0, cells),
+        BlockId::Id(id) => said(rt, 0, test_vectors::wide_id(id), cells),
+        BlockId::Refused(k) => said(rt, k, 0, cells),
     }
 }
 
-fn questions(kind: u32, q: Asked, cells: &[u16]) {
+fn questions(rt: &impl Print, kind: u32, q: Asked, cells: &[u16]) -> io::Result<()> {
     if kind == 1 {
-        named(chunk_look::get(cells, q.size, q.a, q.b, q.c), cells);
+        named(rt, chunk_look::get(cells, q.size, q.a, q.b, q.c), cells)
     } else if kind == 2 {
-        flagged(chunk_look::is_air(cells, q.size, q.a, q.b, q.c), cells);
+        flagged(rt, chunk_look::is_air(cells, q.size, q.a, q.b, q.c), cells)
     } else if kind == 3 {
-        flagged(chunk_look::is_empty(cells, q.size), cells);
+        flagged(rt, chunk_look::is_empty(cells, q.size), cells)
     } else {
-        flagged(chunk_look::is_solid(cells, q.size), cells);
+        flagged(rt, chunk_look::is_solid(cells, q.size), cells)
     }
 }
 
-fn replace(q: Asked, cells: &mut [u16], blocks: &[u16]) {
+fn replace(rt: &impl Print, q: Asked, cells: &mut [u16], blocks: &[u16]) -> io::Result<()> {
     let answer = chunk_edit::replace_blocks(cells, q.size, blocks);
-    counted(answer, cells);
+    counted(rt, answer, cells)
 }
 
 // Replaces the cells by the first a of zeros.
-fn replaced(q: Asked, cells: &mut [u16]) {
+fn replaced(rt: &impl Print, q: Asked, cells: &mut [u16]) -> io::Result<()> {
     let blocks = test_vectors::room();
     let n = q.a;
     if n <= 262144 {
-        replace(q, cells, &blocks[..n]);
+        return replace(rt, q, cells, &blocks[..n]);
     }
+    Ok(())
 }
 
-fn set(q: Asked, cells: &mut [u16]) {
+fn set(rt: &impl Print, q: Asked, cells: &mut [u16]) -> io::Result<()> {
     let answer = chunk_edit::set(cells, q.size, q.count, q.a, q.b, q.c, q.id);
-    counted(answer, cells);
+    counted(rt, answer, cells)
 }
 
-fn column(q: Asked, cells: &mut [u16]) {
+fn column(rt: &impl Print, q: Asked, cells: &mut [u16]) -> io::Result<()> {
     let answer = chunk_edit::fill_column(cells, q.size, q.count, q.a, q.b, q.c, q.id);
-    counted(answer, cells);
+    counted(rt, answer, cells)
 }
 
 fn face(n: usize) -> Face {
@@ -126,47 +130,55 @@ fn face(n: usize) -> Face {
     }
 }
 
-fn extract(q: Asked, cells: &[u16], border: &mut [u16]) {
+fn extract(rt: &impl Print, q: Asked, cells: &[u16], border: &mut [u16]) -> io::Result<()> {
     match chunk_border::extract_border(cells, q.size, face(q.a), border) {
-        Extracted::Done => said(0, 0, border),
-        Extracted::Refused(k) => said(k, 0, border),
+        Extracted::Done => said(rt, 0, 0, border),
+        Extracted::Refused(k) => said(rt, k, 0, border),
     }
 }
 
 // The border of face a, into b places.
-fn bordered(q: Asked, cells: &[u16]) {
+fn bordered(rt: &impl Print, q: Asked, cells: &[u16]) -> io::Result<()> {
     let mut border = test_vectors::room();
     let n = q.b;
     if n <= 262144 {
-        extract(q, cells, &mut border[..n]);
+        return extract(rt, q, cells, &mut border[..n]);
     }
+    Ok(())
 }
 
 fn wide(n: u32) -> u64 {
     n as u64
 }
 
-fn show_counts(counts: &[u32]) {
+fn show_counts(rt: &impl Print, counts: &[u32]) -> io::Result<()> {
     let mut i = 0;
     while i < counts.len() {
-        test_vectors::show_next(wide(counts[i]));
+        test_vectors::show_next(rt, wide(counts[i]))?;
         i += 1;
     }
+    Ok(())
 }
 
 // The line of a tally: the refusal or 0, how many ids, and every place of both lists.
-fn said_lists(number: u32, n: usize, ids: &[u16], counts: &[u32]) {
-    io::print_decimal(1, number as u64);
-    test_vectors::show_next(n as u64);
-    test_vectors::show_ids(ids);
-    show_counts(counts);
-    io::write_all(1, b"\n");
+fn said_lists(
+    rt: &impl Print,
+    number: u32,
+    n: usize,
+    ids: &[u16],
+    counts: &[u32],
+) -> io::Result<()> {
+    print!(rt; "{number}")?;
+    test_vectors::show_next(rt, n as u64)?;
+    test_vectors::show_ids(rt, ids)?;
+    show_counts(rt, counts)?;
+    println!(rt)
 }
 
-fn listed(q: Asked, cells: &[u16], ids: &mut [u16], counts: &mut [u32]) {
+fn listed(rt: &impl Print, q: Asked, cells: &[u16], ids: &mut [u16], counts: &mut [u32]) -> io::Result<()> {
     match chunk_tally::tally(cells, q.size, ids, counts) {
-        Listed::Ids(n) => said_lists(0, n, ids, counts),
-        Listed::Refused(k) => said_lists(k, 0, ids, counts),
+        Listed::Ids(n) => said_lists(rt, 0, n, ids, counts),
+        Listed::Refused(k) => said_lists(rt, k, 0, ids, counts),
     }
 }
 
@@ -184,16 +196,17 @@ fn counts_room() -> [u32; 16]
 }
 
 // The tally into lists of a and b places.
-fn tallied(q: Asked, cells: &[u16]) {
+fn tallied(rt: &impl Print, q: Asked, cells: &[u16]) -> io::Result<()> {
     let mut ids = ids_room();
     let mut counts = counts_room();
     let n = q.a;
     let m = q.b;
     if n <= 16 {
         if m <= 16 {
-            listed(q, cells, &mut ids[..n], &mut counts[..m]);
+            return listed(rt, q, cells, &mut ids[..n], &mut counts[..m]);
         }
     }
+    Ok(())
 }
 
 fn put_first(cells: &mut [u16], id: u16) {
@@ -204,31 +217,31 @@ fn put_first(cells: &mut [u16], id: u16) {
 }
 
 // The tally of cells the first of which holds the id, so that they need not hold their ids upward.
-fn tallied_with(q: Asked, cells: &mut [u16]) {
+fn tallied_with(rt: &impl Print, q: Asked, cells: &mut [u16]) -> io::Result<()> {
     put_first(cells, q.id);
-    tallied(q, cells);
+    tallied(rt, q, cells)
 }
 
-fn edits(kind: u32, q: Asked, cells: &mut [u16]) {
+fn edits(rt: &impl Print, kind: u32, q: Asked, cells: &mut [u16]) -> io::Result<()> {
     if kind == 5 {
-        replaced(q, cells);
+        replaced(rt, q, cells)
     } else if kind == 6 {
-        set(q, cells);
+        set(rt, q, cells)
     } else if kind == 7 {
-        column(q, cells);
+        column(rt, q, cells)
     } else if kind == 9 {
-        bordered(q, cells);
+        bordered(rt, q, cells)
     } else {
-        tallied_with(q, cells);
+        tallied_with(rt, q, cells)
     }
 }
 
-fn call(kind: u32, q: Asked, cells: &mut [u16]) {
+fn call(rt: &impl Print, kind: u32, q: Asked, cells: &mut [u16]) -> io::Result<()> {
     fill(cells);
     if kind < 5 {
-        questions(kind, q, cells);
+        questions(rt, kind, q, cells)
     } else {
-        edits(kind, q, cells);
+        edits(rt, kind, q, cells)
     }
 }
 
@@ -237,11 +250,11 @@ fn low(n: u32) -> u16 {
 }
 
 // Makes the call of one line, on as many cells as it says.
-fn make(list: &[u32; 7]) {
+fn make(rt: &impl Print, list: &[u32; 7]) -> io::Result<()> {
     let mut cells = test_vectors::room();
     let n = index(list[2]);
     if n > 262144 {
-        return;
+        return Ok(());
     }
     let q = Asked {
         id: low(list[0]),
@@ -251,29 +264,29 @@ fn make(list: &[u32; 7]) {
         b: index(list[5]),
         c: index(list[6]),
     };
-    call(list[0] / 65536, q, &mut cells[..n]);
+    call(rt, list[0] / 65536, q, &mut cells[..n])
 }
 
 // What a batch says: the number of groups written, the count, and a checksum of the cells.
-fn written(answer: BatchReply, cells: &[u16]) {
+fn written(rt: &impl Print, answer: BatchReply, cells: &[u16]) -> io::Result<()> {
     match answer {
         BatchReply::Written { written, count } => {
-            show(0, b' ');
-            said_written(written, count, cells);
+            show(rt, 0, ' ')?;
+            said_written(rt, written, count, cells)
         }
-        BatchReply::Refused(k) => said(k, 0, cells),
+        BatchReply::Refused(k) => said(rt, k, 0, cells),
     }
 }
 
-fn said_written(written: usize, count: u32, cells: &[u16]) {
-    show(written as u64, b' ');
-    show(count as u64, b' ');
-    show(test_vectors::checksum(cells) as u64, b'\n');
+fn said_written(rt: &impl Print, written: usize, count: u32, cells: &[u16]) -> io::Result<()> {
+    show(rt, written as u64, ' ')?;
+    show(rt, count as u64, ' ')?;
+    show(rt, test_vectors::checksum(cells) as u64, '\n')
 }
 
 // A batch of two groups, at (a, b, c) and (c, b, a), and two numbers left over. The call's number
 // stands for the id, so that an id is above 65,535.
-fn batch(list: &[u32; 7], cells: &mut [u16]) {
+fn batch(rt: &impl Print, list: &[u32; 7], cells: &mut [u16]) -> io::Result<()> {
     fill(cells);
     let k = list[0];
     let a = list[4];
@@ -281,44 +294,45 @@ fn batch(list: &[u32; 7], cells: &mut [u16]) {
     let c = list[6];
     let edits = [a, b, c, k, c, b, a, k, a, b];
     let answer = chunk_batch::set_blocks(cells, index(list[1]), list[3], &edits);
-    written(answer, cells);
+    written(rt, answer, cells)
 }
 
 // Makes the batch of one line, on as many cells as it says.
-fn make_batch(list: &[u32; 7]) {
+fn make_batch(rt: &impl Print, list: &[u32; 7]) -> io::Result<()> {
     let mut cells = test_vectors::room();
     let n = index(list[2]);
     if n > 262144 {
-        return;
+        return Ok(());
     }
-    batch(list, &mut cells[..n]);
+    batch(rt, list, &mut cells[..n])
 }
 
 // Answers the line that begins at a position, and where the next one begins.
-fn row(text: &[u8], from: usize) -> usize {
+fn row(rt: &impl Print, text: &[u8], from: usize) -> io::Result<usize> {
     let mut list = [0u32; 7];
     let next = test_vectors::seven(text, from, &mut list);
     if list[0] / 65536 == 8 {
-        make_batch(&list);
+        make_batch(rt, &list)?;
     } else {
-        make(&list);
+        make(rt, &list)?;
     }
-    next
+    Ok(next)
 }
 
-fn rows(text: &[u8]) {
+fn rows(rt: &impl Print, text: &[u8]) -> io::Result<()> {
     let mut at = 0;
     while at < text.len() {
-        let next = row(text, at);
+        let next = row(rt, text, at)?;
         if next <= at {
-            return;
+            return Ok(());
         }
         at = next;
     }
+    Ok(())
 }
 
-fn main() {
-    let mut text = io::large_buffer();
-    let n = io::read_full(0, &mut text);
-    rows(&text[..n]);
+fn main(rt: HostRuntime) -> io::Result<()> {
+    let mut text = test_vectors::text_room();
+    let n = test_vectors::read_text(&rt, &mut text)?;
+    rows(&rt, &text[..n])
 }

@@ -48,13 +48,7 @@ fn row(rt: &impl Print, text: &[u8], from: usize) -> io::Result<usize> {
         num_core::wrap::of_bits(list[1]),
         num_core::wrap::of_bits(list[2]),
     )?;
-    noises(
-        rt,
-        float(list[3]),
-        float(list[4]),
-        float(list[5]),
-        list[6],
-    )?;
+    noises(rt, float(list[3]), float(list[4]), float(list[5]), list[6])?;
     Ok(next)
 }
 

@@ -1,4 +1,6 @@
 // A byte more than a journal can have, without an LF and not G: 9 comes before 10 and 11 (SCOPE 10.4).
-fn main() {
-    openmap_main::open_map();
+#![tactic(auto)]
+
+fn main(rt: HostRuntime) {
+    openmap_main::open_map(&rt);
 }

@@ -10,8 +10,12 @@
 //   8  the first a bytes of the journal
 // Each but 8 writes a line: number, line, written, previous, altered (of 6 and 7 the last three are 0); the record's count, used bytes and active edits;
 // the cells. The expected output was worked out from SCOPE, without the library.
+#![tactic(auto)]
+
 use host_starts::reopen_start;
 use session_calls::{Edited, Reply, Session};
+use std::io;
+use std::io::Print;
 use test_vectors::{show_ids, show_next, wide_id};
 
 // As long as the first line's 23 bytes, 258 sets of one cell and three undos: then it is full.
@@ -26,28 +30,30 @@ fn low(n: u32) -> u16 {
 }
 
 // What a call told, and the record and the cells after it.
-fn show(e: Edited, cells: &[u16; 8]) -> Session {
+fn show(rt: &impl Print, e: Edited, cells: &[u16; 8]) -> io::Result<Session> {
     let r = e.reply;
     let s = e.session;
-    io::print_decimal(1, r.refusal as u64);
-    show_next(r.line as u64);
-    show_next(r.written as u64);
-    show_next(wide_id(r.previous) as u64);
-    show_next(r.altered as u64);
-    show_next(s.count as u64);
-    show_next(s.used as u64);
-    show_next(s.active as u64);
-    show_ids(cells);
-    io::write_all(1, b"\n");
-    s
+    let refusal = r.refusal;
+    print!(rt; "{refusal}")?;
+    show_next(rt, r.line as u64)?;
+    show_next(rt, r.written as u64)?;
+    show_next(rt, wide_id(r.previous) as u64)?;
+    show_next(rt, r.altered as u64)?;
+    show_next(rt, s.count as u64)?;
+    show_next(rt, s.used as u64)?;
+    show_next(rt, s.active as u64)?;
+    show_ids(rt, cells)?;
+    println!(rt)?;
+    Ok(s)
 }
 
 // The first n bytes of the journal, and a line's end.
-fn show_text(journal: &[u8], n: usize) {
+fn show_text(rt: &impl Print, journal: &[u8], n: usize) -> io::Result<()> {
     if n <= journal.len() {
-        io::write_all(1, &journal[..n]);
-        io::write_all(1, b"\n");
+        rt.write_all(&journal[..n])?;
+        println!(rt)?;
     }
+    Ok(())
 }
 
 // The record with an answer that tells nothing.
@@ -144,42 +150,56 @@ fn other(
 
 // Makes the call that a line says, and hands the record on.
 fn call(
+    rt: &impl Print,
     kind: u32,
     s: Session,
     cells: &mut [u16; 8],
     journal: &mut [u8; JOURNAL],
     list: &[u32; 7],
-) -> Session {
+) -> io::Result<Session> {
     let e = if kind < 4 {
         edit(kind, s, cells, journal, list)
     } else {
         other(kind, s, cells, journal, index(list[1]))
     };
-    show(e, cells)
+    show(rt, e, cells)
 }
 
-fn row(s: Session, cells: &mut [u16; 8], journal: &mut [u8; JOURNAL], list: &[u32; 7]) -> Session {
+fn row(
+    rt: &impl Print,
+    s: Session,
+    cells: &mut [u16; 8],
+    journal: &mut [u8; JOURNAL],
+    list: &[u32; 7],
+) -> io::Result<Session> {
     let kind = list[0];
     if kind == 8 {
-        show_text(journal, index(list[1]));
-        return s;
+        show_text(rt, journal, index(list[1]))?;
+        return Ok(s);
     }
-    call(kind, s, cells, journal, list)
+    call(rt, kind, s, cells, journal, list)
 }
 
 // The lines of the input, one after the other.
-fn rows(text: &[u8], first: Session, cells: &mut [u16; 8], journal: &mut [u8; JOURNAL]) {
+fn rows(
+    rt: &impl Print,
+    text: &[u8],
+    first: Session,
+    cells: &mut [u16; 8],
+    journal: &mut [u8; JOURNAL],
+) -> io::Result<()> {
     let mut list = [0u32; 7];
     let mut s = first;
     let mut at = 0;
     while at < text.len() {
         let next = test_vectors::seven(text, at, &mut list);
         if next <= at {
-            return;
+            return Ok(());
         }
-        s = row(s, cells, journal, &list);
+        s = row(rt, s, cells, journal, &list)?;
         at = next;
     }
+    Ok(())
 }
 
 // An older journal: of its five edits only the second alters a cell. Its last line was cut off.
@@ -187,21 +207,21 @@ fn store(journal: &mut [u8]) {
     let text =
         b"G\t0\t4096\t256\t2\t0\t128\t0\nS\t0\t0\t0\t5\nS\t0\t0\t0\t0\nC\t0\t0\t1\t0\nC\t1\t1\t0\t7\nB\t2\t1\t1\t1\t8\t1\t1\t1\t5\nS\t1";
     if text.len() <= journal.len() {
-        bytes::copy(text, journal);
+        journal[..text.len()].copy_from_slice(text);
     }
 }
 
 // There is no record before the first reopening: its numbers are 0.
-fn replay(text: &[u8]) {
+fn replay(rt: &impl Print, text: &[u8]) -> io::Result<()> {
     let mut cells = [0u16; 8];
     let mut journal = [0u8; JOURNAL];
     store(&mut journal);
     let none = reopen(&mut cells, &journal, 0);
-    rows(text, none.session, &mut cells, &mut journal);
+    rows(rt, text, none.session, &mut cells, &mut journal)
 }
 
-fn main() {
-    let mut text = io::buffer();
-    let n = io::read_full(0, &mut text);
-    replay(&text[..n]);
+fn main(rt: HostRuntime) -> io::Result<()> {
+    let mut text = [0u8; 4096];
+    let n = test_vectors::read_text(&rt, &mut text)?;
+    replay(&rt, &text[..n])
 }
