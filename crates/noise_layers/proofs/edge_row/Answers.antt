@@ -1,6 +1,5 @@
 use mathlib.Core.Path.{◌≡◌, sym, ap, ap₂, ◌∙◌, subst}
-use mathlib.Core.Logic.{⊎_elim}
-use Prim.Native.Nat.{ℕ, ◌+◌, ◌-◌, ◌≤◌, ◌<◌}
+use Prim.Native.Nat.{ℕ, ◌+◌, ◌≤◌, ◌<◌}
 use native.Mathlib.Omega.{arith}
 use lib.ListN.{length, get_or}
 use lib.IntN.{ℤ}
@@ -228,14 +227,19 @@ loop-i-preserved c =
     let x = get_or c.args.floors.now (c.args.base + l.i) 0 in
     let j = c.if-next-at in
     let k : (j.at ≡ x) × Hashes iy iz x j.a j.b =
-    elim j.branch [
-      then-next-at w ↦
-        let ix = read w32 w.of_bits-then-next-at.type_inv w.of_bits-then-next-at.ensures in
-        let jx = read w32 w.wrapping_add-then-next-at.type_inv (w.wrapping_add-then-next-at.ensures ∙ ap next (read w32 w.of_bits-then-next-at-2.type_inv w.of_bits-then-next-at-2.ensures)) in
-        (w.at-is, (w.a-is ∙ w.hash3-a-then-next-at.ensures ∙ ap (λ (u : ℤ). hash3₃₂ u iy iz) ix, w.b-is ∙ w.hash3-b-then-next-at.ensures ∙ ap (λ (u : ℤ). hash3₃₂ u iy iz) jx))
-    | else-next-at w ↦
-        let e = sym w.if-next-at.false in
-        (w.at-is ∙ e, (w.a-is ∙ l.invariant.1.0 ∙ ap (λ (u : ℕ). hash3₃₂ (to_z w32 u) iy iz) e, w.b-is ∙ l.invariant.1.1 ∙ ap (λ (u : ℕ). hash3₃₂ (next (to_z w32 u)) iy iz) e))
+    elim c.if-next-at.branch [
+      | then-next-at w ↦
+          let ix = read w32 w.of_bits-then-next-at.type_inv w.of_bits-then-next-at.ensures in
+          let ix2 = read w32 w.of_bits-then-next-at-2.type_inv w.of_bits-then-next-at-2.ensures in
+          let jx = read w32 w.wrapping_add-then-next-at.type_inv (w.wrapping_add-then-next-at.ensures ∙ ap next ix2) in (
+            w.at-is,
+            (w.a-is ∙ w.hash3-a-then-next-at.ensures ∙ ap (λ (u : ℤ). hash3₃₂ u iy iz) ix, w.b-is ∙ w.hash3-b-then-next-at.ensures ∙ ap (λ (u : ℤ). hash3₃₂ u iy iz) jx),
+          )
+      | else-next-at w ↦
+          let e = sym w.if-next-at.false in (
+            w.at-is ∙ e,
+            (w.a-is ∙ l.invariant.1.0 ∙ ap (λ (u : ℕ). hash3₃₂ (to_z w32 u) iy iz) e, w.b-is ∙ l.invariant.1.1 ∙ ap (λ (u : ℕ). hash3₃₂ (next (to_z w32 u)) iy iz) e),
+          )
     ] in (
       omega arith,
       subst (λ (u : ℕ). Hashes iy iz u j.a j.b) (sym k.0) k.1,

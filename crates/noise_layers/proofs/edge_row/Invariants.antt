@@ -1,6 +1,5 @@
 -- `noise_layers::edge_row` meets its contract. Assumes nothing.
 use Prim.Native.Nat.{◌-◌, ◌≤◌}
-use Rattle.noise_tables.specs.Row.{at}
 use Rattle.noise_layers.specs.Layers.{edge_at, Hashes, RowLaid}
 use Rattle.noise_layers.proofs.edge_row.Given as goal
 

@@ -123,7 +123,7 @@ edge_row-requires-2 c =
     let w = r.wholes in
     let p = r.parts in
     let e = r.rows in
-    let g0 = c.edges-1.given in
+    let g0 = c.edge_row.ensures.long in
     (z, m, omega arith, omega arith, omega arith, omega arith, omega arith)
 
 pub overflow_add-to-2 : goal.overflow_add-to-2
@@ -151,8 +151,8 @@ edge_row-requires-3 c =
     let w = r.wholes in
     let p = r.parts in
     let e = r.rows in
-    let g0 = c.edges-2-1.given in
-    let g1 = c.edges-1.given in
+    let g0 = c.edge_row-2.ensures.long in
+    let g1 = c.edge_row.ensures.long in
     (z, m, omega arith, omega arith, omega arith, omega arith, omega arith)
 
 pub overflow_add-to-3 : goal.overflow_add-to-3
@@ -181,16 +181,10 @@ edge_row-requires-4 c =
     let w = r.wholes in
     let p = r.parts in
     let e = r.rows in
-    let g0 = c.edges-3-1.given in
-    let g1 = c.edges-2-1.given in
-    let g2 = c.edges-1.given in
+    let g0 = c.edge_row-3.ensures.long in
+    let g1 = c.edge_row-2.ensures.long in
+    let g2 = c.edge_row.ensures.long in
     (z, m, omega arith, omega arith, omega arith, omega arith, omega arith)
-
-pub shape_of-edges : goal.shape_of-edges
-shape_of-edges c =
-    c.edges-4-1.given ∙ c.edges-3-1.given
-    ∙ c.edges-2-1.given
-    ∙ c.edges-1.given
 
 pub returns : goal.returns
 returns c =

@@ -1,5 +1,4 @@
 use mathlib.Core.Path.{ap₂}
-use Prim.Native.Nat.{◌-◌}
 use native.Mathlib.Omega.{arith}
 use lib.Ieee.{Float, binary32, add, mul}
 use Rattle.noise.specs.Noise.{along2}

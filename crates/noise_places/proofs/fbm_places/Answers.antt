@@ -1,5 +1,5 @@
-use mathlib.Core.Path.{◌≡◌, refl, ◌∙◌}
-use Prim.Native.Nat.{◌-◌, ◌≤◌}
+use mathlib.Core.Path.{◌≡◌, refl}
+use Prim.Native.Nat.{◌≤◌}
 use native.Mathlib.Omega.{arith}
 use lib.Ieee.{of_bits}
 use Rattle.num_core.specs.Num.{nearest}
@@ -34,15 +34,11 @@ unfolding nearest of_bits
 loop-preserved c =
     let l = c.loop in
     let t = c.loop-test.true in
-    (omega arith, c.vals-in-loop-1.given ∙ l.invariant.1, passed_more c.args.n (along_places c.args.xs.now c.args.ys.now) l.counter l.vals _ l.amp l.freq l.max l.invariant.2 c.add_octave_at.ensures)
+    (omega arith, omega (arith, c.add_octave_at.ensures.long), passed_more c.args.n (along_places c.args.xs.now c.args.ys.now) l.counter l.vals _ l.amp l.freq l.max l.invariant.2 c.add_octave_at.ensures)
 
 pub divide-requires : goal.divide-requires
 divide-requires c =
     (c.requires.1, c.loop.invariant.2.long)
-
-pub shape_of-vals : goal.shape_of-vals
-shape_of-vals c =
-    c.vals-2-1.given ∙ c.loop.invariant.1 ∙ c.vals-1.given
 
 pub returns : goal.returns
 unfolding places_fbm along_places fbm2d₃₂

@@ -15,8 +15,8 @@ returns-then-kx-ix c =
     let k = c.args.k in
     let x = c.args.ix in
     let y = c.args.iy in
-    let fx : SFits w32 k.ix = record { sfits = (let g = c.struct_told-1.given in omega arith) } in
-    let fy : SFits w32 k.iy = record { sfits = (let g = c.struct_told-2-1.given in omega arith) } in
+    let fx : SFits w32 k.ix = record { sfits = omega arith } in
+    let fy : SFits w32 k.iy = record { sfits = omega arith } in
     let t = and_both (eqb (of_z w32 k.ix) (of_z w32 x)) (eqb (of_z w32 k.iy) (of_z w32 y)) c.if-kx-ix.true in
     c.requires.is ∙ ap₂ square_of (same k.ix x fx c.ranges.ix t.0) (same k.iy y fy c.ranges.iy t.1)
 
