@@ -130,8 +130,10 @@ class Turn:
         if k < len(parts):
             if parts[k] in ("args", "requires", "ranges", "well-formed", "well_formed", "lifetimes", "type-inv", "type_inv"):
                 new = parts[k].replace("-", "_")
-            else:
+            elif k or root in self.env or root == ")" or root == "c":
                 new = self.label(parts[k])
+            else:
+                new = None
             if new and (k or parts[k] in ("args", "requires", "ranges") or root == "" or True):
                 parts = [new] + parts[k + 1 :]
         if root not in self.labels:
@@ -430,6 +432,8 @@ class Turn:
             raise Stop(f"{a} has {params}, the loop has {vars} {changed}")
         to = {p: w for p, (v, w) in zip(params, want) if p != "_"}
         body = re.sub(r"(?<![\w'\-.₀-₉])[^\W\d][\w'₀-₉]*(?:-[\w']+)*(?![\w'\-₀-₉])", lambda m: to.get(m[0], m[0]), body)
+        # a signed number is a number of ℤ in today's loops
+        body = re.sub(r"\(to_z w(?:8|16|32|64) (l\.[\w.']+)\)|to_z w(?:8|16|32|64) (l\.[\w.']+)", lambda m: m[1] or m[2], body)
         name = f"{kind}-{new}"
         return "\n".join(notes + [f"abbrev pub {name} : goal.{name}"] + unf + [f"{name} l ={body}"])
 

@@ -1,4 +1,6 @@
 // The outermost layer of a chunk's cells on one of its six sides.
+#![tactic(auto)]
+
 ghost use Rattle.std.specs.Prelude.{◌≡◌, ◌≤◌, ◌<◌, ◌*◌, length};
 ghost use Rattle.grid.specs.Cube.{Cube};
 ghost use Rattle.chunk_border.specs.Border.{border_source, border_of, border_refusal, says_extracted, bordered, chunk_border_does};

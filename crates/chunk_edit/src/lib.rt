@@ -1,5 +1,7 @@
 // The cells of a chunk, borrowed: replacing all of them, setting one and filling a column. Arguments that
 // a call does not take are refused with the cause's number (SCOPE 10.2, 10.3), and the cells are then as they were.
+#![tactic(auto)]
+
 ghost use Rattle.std.specs.Prelude.{◌≡◌, length};
 ghost use Rattle.config.specs.Answers.{cells_outcome};
 ghost use Rattle.chunk.specs.Replies.{says_counted};

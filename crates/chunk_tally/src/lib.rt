@@ -1,4 +1,6 @@
 // The ids that a chunk holds, each with its number of cells.
+#![tactic(auto)]
+
 ghost use Rattle.std.specs.Prelude.{◌≡◌, ◌+◌, ◌≤◌, ◌<◌, [], length};
 ghost use Rattle.std.proofs.lemmas.List.Edits.{sets};
 ghost use Rattle.chunk_tally.specs.Ids.{list_if, bump_at, TableRoom, id_table, window_ids, window_counts, present_ids, present_counts};

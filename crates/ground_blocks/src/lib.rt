@@ -1,4 +1,6 @@
 // Block ids, and which block a cell below the surface is: block.rs, and `select_block` of terrain.rs.
+#![tactic(auto)]
+
 ghost use Rattle.std.specs.Prelude.{◌≡◌, ◌-ℤ◌};
 ghost use Rattle.ground_blocks.specs.Blocks.{desert_block, snow_patch, mountain_top, mountain_block, shore_block, forest_block, plains_block, select_block};
 
@@ -39,6 +41,7 @@ fn snow_patch(wy: i32, height: i32) -> bool
     noise::hash2(wrapping_mul(wy, 3), wrapping_mul(height, 7)) > 0.5
 }
 
+#[tactic(auto, unfolding(crate::specs::Blocks::desert_block))]
 fn desert(depth: i64) -> u16
     ensures { result ≡ desert_block depth }
 {
@@ -49,6 +52,7 @@ fn desert(depth: i64) -> u16
     }
 }
 
+#[tactic(auto, unfolding(crate::specs::Blocks::mountain_top))]
 fn mountain_top(wy: i32, height: i32) -> u16
     ensures { result ≡ mountain_top wy height }
 {
@@ -60,6 +64,7 @@ fn mountain_top(wy: i32, height: i32) -> u16
     }
 }
 
+#[tactic(auto, unfolding(crate::specs::Blocks::mountain_block))]
 fn mountain(depth: i64, wy: i32, height: i32) -> u16
     ensures { result ≡ mountain_block depth wy height }
 {
@@ -80,6 +85,7 @@ fn shore(height: i32, sea_level: i32) -> u16
     }
 }
 
+#[tactic(auto, unfolding(crate::specs::Blocks::forest_block))]
 fn forest(depth: i64, height: i32, sea_level: i32) -> u16
     ensures { result ≡ forest_block depth height sea_level }
 {
@@ -90,6 +96,7 @@ fn forest(depth: i64, height: i32, sea_level: i32) -> u16
     }
 }
 
+#[tactic(auto, unfolding(crate::specs::Blocks::plains_block))]
 fn plains(depth: i64, height: i32, sea_level: i32) -> u16
     ensures { result ≡ plains_block depth height sea_level }
 {

@@ -1,4 +1,6 @@
 // The leaves of a tree: `place_tree` of terrain.rs without the trunk.
+#![tactic(auto)]
+
 ghost use Rattle.std.specs.Prelude.{◌≡◌, ◌≤◌, ◌<◌, pos, ◌-ℤ◌};
 ghost use Rattle.std.specs.Int.Signed.{mag};
 ghost use Rattle.grid.specs.Cube.{Cube};

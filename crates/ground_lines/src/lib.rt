@@ -1,4 +1,6 @@
 // Lines of cells along x: which levels a row's caves can lie between, and the laying of a line by its flags.
+#![tactic(auto)]
+
 ghost use Rattle.std.specs.Prelude.{◌≡◌, ◌+◌, ◌*◌, ◌≤◌, ◌<◌, length};
 ghost use Rattle.std.specs.Int.Signed.{mag};
 ghost use Rattle.ground_cell.specs.World.{Tall, Near};

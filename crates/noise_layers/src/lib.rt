@@ -1,5 +1,7 @@
 // 3D noise along rows of columns, level by level. Each value is that of `noise3d`, by the same f32 operations on the same
 // operands; what does not change is kept: the hashes along x, and their interpolation along x from level to level.
+#![tactic(auto)]
+
 ghost use Rattle.std.specs.Prelude.{◌+◌, ◌*◌, ◌≤◌, ◌<◌, length};
 ghost use Rattle.noise_tables.specs.Row.{Row};
 ghost use Rattle.noise_layers.specs.Layers.{edge_at, RowLaid, OctaveRoom, Layered, row_more};

@@ -1,5 +1,7 @@
 // Noise at a row of places: one lattice square and its hashes are kept until a place lies in another. Every f32 operation
 // is that of `noise2d` and `fbm2d`, in their order.
+#![tactic(auto)]
+
 ghost use Rattle.std.specs.Prelude.{◌≡◌, ◌≤◌, ◌<◌, length};
 ghost use Rattle.num_core.specs.Num.{floor_i};
 ghost use Rattle.noise.specs.Noise.{ease₃₂, square₃₂, noise2d₃₂};

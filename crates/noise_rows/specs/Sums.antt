@@ -5,7 +5,7 @@ use Rattle.std.specs.Float.{nan, binary32}
 use Rattle.std.specs.Float.Ieee.{add, mul, div}
 use Rattle.std.specs.Int.{w32}
 use Rattle.num_core.specs.Num.{floor_i}
-use Rattle.noise.specs.Noise.{num, ease₃₂, square₃₂, noise2d₃₂, fbm2d₃₂, octaves}
+use Rattle.noise.specs.Noise.{num, ease₃₂, square₃₂, noise2d₃₂, fbm2d₃₂}
 use Rattle.noise_tables.specs.Row.{at, Row}
 use Rattle.noise_tables.specs.Places.{Tells, tells_floor}
 use Rattle.noise_rows.specs.Square.{between₃₂}

@@ -1,5 +1,7 @@
 // Noise along a row of columns: the tables tell where each place lies along x, and the places of a lattice square take
 // its hashes from one reading. Every f32 operation is that of `noise2d` and `fbm2d`, in their order.
+#![tactic(auto)]
+
 ghost use Rattle.std.specs.Prelude.{◌≡◌, ◌+◌, ◌*◌, ◌≤◌, ◌<◌, length};
 ghost use Rattle.std.specs.Float.{binary32};
 ghost use Rattle.std.specs.Float.Ieee.{mul};

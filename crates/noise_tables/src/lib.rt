@@ -1,5 +1,7 @@
 // Where places lie in the noise's lattice: for each the bits of its whole part and its smoothed fraction. An octave of a
 // row of places is noted once and read for every row after.
+#![tactic(auto)]
+
 ghost use Rattle.std.specs.Prelude.{◌≡◌, ◌+◌, ◌≤◌, length};
 ghost use Rattle.noise_tables.specs.Places.{entry_of, Told};
 ghost use Rattle.noise_tables.specs.Scaled.{scaled_by};

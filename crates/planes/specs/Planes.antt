@@ -3,7 +3,7 @@ use Rattle.std.specs.Prelude.{◌≡◌, refl, ℕ, zero, suc, ◌+◌, ◌*◌,
 use Rattle.std.proofs.Common.{sym, ap}
 use Rattle.grid.specs.Cube.{tab}
 use Rattle.config.specs.Refusals.{must, refusal}
-use Rattle.config.specs.Answers.{Answer, accepted, refused_with, never_both, unless_refused, is_refused, not_refused, CellsOutcome, cells_outcome, done}
+use Rattle.config.specs.Answers.{Answer, accepted, refused_with, never_both, unless_refused, CellsOutcome, done}
 use Rattle.planes.specs.declared.Copied.{Copied}
 use Rattle.planes.specs.declared.Copied.TheVariants as copied
 use Rattle.planes.specs.Order.{cell_at, position_of, volume}
@@ -77,26 +77,6 @@ abbrev pub Bytes : List ℕ → Type 0
 Bytes b = (i : ℕ) → get_or b i 0 < 256
 
 -- ---- laws
-
--- an accepted call, and a refused one, which changes nothing
-module _ (size : ℕ) (c b : List ℕ) where
-  pub to_accepted : planes_refusal size (length c) (length b) ≡ 0 → to_planes_does size c b ≡ planes_outcome (accepted []) (planes_of (bits_of size) c)
-  unfolding to_planes_does
-  to_accepted e = not_refused _ _ _ e
-
-  pub to_refused : (planes_refusal size (length c) (length b) ≡ 0 → ⊥)
-      → to_planes_does size c b ≡ planes_outcome (refused_with (planes_refusal size (length c) (length b))) b
-  unfolding to_planes_does
-  to_refused e = is_refused _ _ _ e
-
-  pub from_accepted : planes_refusal size (length c) (length b) ≡ 0 → from_planes_does size b c ≡ cells_outcome (accepted []) (cells_of (bits_of size) b)
-  unfolding from_planes_does
-  from_accepted e = not_refused _ _ _ e
-
-  pub from_refused : (planes_refusal size (length c) (length b) ≡ 0 → ⊥)
-      → from_planes_does size b c ≡ cells_outcome (refused_with (planes_refusal size (length c) (length b))) c
-  unfolding from_planes_does
-  from_refused e = is_refused _ _ _ e
 
 -- SCOPE 1.4: answers that say the same are the same
 pub same_copied : (a b : Copied) → says_copied a ≡ says_copied b → a ≡ b

@@ -9,9 +9,10 @@ use Rattle.basics.specs.Naturals.{split}
 use Rattle.grid.specs.Cube.{cell_index, tab}
 use Rattle.grid.specs.Grid.{tab_at, tab_length, cube_most}
 use Rattle.planes.specs.Order.{third, cell_at, volume}
-use Rattle.planes.specs.Bijection.{volume_more, third_lt, cell_lt}
+use Rattle.planes.proofs.Bijection.{volume_more, third_lt, cell_lt}
 use Rattle.planes.specs.Planes.{bits_of}
-use Rattle.planes.specs.Sizes.{Fit, cells_all}
+use Rattle.planes.specs.Sizes.{Fit}
+use Rattle.planes.proofs.Sizes.{cells_all}
 
 -- the cell that six bits give, two of each coordinate
 unfoldable pub block_cell : ℕ → ℕ → ℕ

@@ -11,10 +11,11 @@ use Rattle.basics.specs.Naturals.{split}
 use Rattle.grid.specs.Cube.{tab, steps}
 use Rattle.grid.specs.Grid.{steps_same, steps_length, fill_at}
 use Rattle.planes.specs.Order.{position_of, volume}
-use Rattle.planes.specs.Bijection.{position_lt, position_cell, cell_position}
+use Rattle.planes.proofs.Bijection.{position_lt, position_cell, cell_position}
 use Rattle.planes.specs.Planes.{bits_of, cells_of}
-use Rattle.planes.specs.Undo.{cells_length, cell_at_lem}
-use Rattle.planes.specs.Sizes.{Fit, cells_all}
+use Rattle.planes.proofs.Undo.{cells_length, cell_at_lem}
+use Rattle.planes.specs.Sizes.{Fit}
+use Rattle.planes.proofs.Sizes.{cells_all}
 use Rattle.planes_blocks.specs.Blocks.{block_cell, first_by, cell_by, Within, cell_by_lem, cell_is, blocks_of}
 use Rattle.planes_read.specs.Reading.{id_at, put_into, put_back}
 

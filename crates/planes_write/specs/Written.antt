@@ -10,7 +10,8 @@ use Rattle.grid.specs.Cube.{tab, steps}
 use Rattle.grid.specs.Grid.{tab_same, fill_more, fill_all, fill_length, fill_at, steps_same}
 use Rattle.planes.specs.Order.{cell_at}
 use Rattle.planes.specs.Planes.{bits_of, low_plane, high_plane, planes_of}
-use Rattle.planes.specs.Sizes.{Fit, cells_all, bytes_all}
+use Rattle.planes.specs.Sizes.{Fit}
+use Rattle.planes.proofs.Sizes.{cells_all, bytes_all}
 use Rattle.planes_blocks.specs.Blocks.{block_cell, first_by, cell_by, Within, cell_by_lem, cell_is}
 use Rattle.planes_write.specs.Writing.{taken_from, put_id, put_bytes, put_cell}
 

@@ -3,7 +3,8 @@ use mathlib.Core.Path.{sym, ◌∙◌}
 use native.Mathlib.Omega.{arith}
 use borrow.Author.Tests.{eq-eqb, ne_eqb}
 use Rattle.grid.specs.Grid.{square_most, cube_most}
-use Rattle.planes.specs.Sizes.{power, size_stops, cells_stop, bytes_stop, none_stops}
+use Rattle.planes.proofs.Sizes.{power}
+use Rattle.planes.proofs.Sizes.{size_stops, cells_stop, bytes_stop, none_stops}
 use Rattle.planes.proofs.refuse_planes.Goals as goal
 
 pub returns-then-not-power_size : goal.returns-then-not-power_size

@@ -3,8 +3,8 @@ use mathlib.Core.Path.{sym, ap, ◌∙◌}
 use Prim.Native.Nat.{ℕ}
 use mathlib.Core.List.{[]}
 use Rattle.config.specs.Answers.{accepted, refused_with, cells_outcome}
-use Rattle.planes.specs.Planes.{from_accepted, from_refused}
-use Rattle.planes.specs.Sizes.{planes_passed}
+use Rattle.planes.proofs.Planes.{from_accepted, from_refused}
+use Rattle.planes.proofs.Sizes.{planes_passed}
 use Rattle.planes_read.proofs.from_planes.Goals as goal
 
 pub returns-then-k-ne-OK : goal.returns-then-k-ne-OK

@@ -3,8 +3,9 @@ use mathlib.Core.Path.{sym, ap, ◌∙◌}
 use Prim.Native.Nat.{ℕ}
 use mathlib.Core.List.{[]}
 use Rattle.config.specs.Answers.{accepted, refused_with}
-use Rattle.planes.specs.Planes.{planes_outcome, to_accepted, to_refused}
-use Rattle.planes.specs.Sizes.{planes_passed}
+use Rattle.planes.specs.Planes.{planes_outcome}
+use Rattle.planes.proofs.Planes.{to_accepted, to_refused}
+use Rattle.planes.proofs.Sizes.{planes_passed}
 use Rattle.planes_write.proofs.to_planes.Goals as goal
 
 pub returns-then-k-ne-OK : goal.returns-then-k-ne-OK
