@@ -85,6 +85,7 @@ class Turn:
             if pair[0]:
                 self.labels[norm(pair[0])] = pair[1]
         self.places = {norm(p[0]): n for p, n in zip(names["places"], names["places_by_name"])}
+        self.callee = {pair[1]: fn for old, parent, pair, fn, rest in names["places"] if fn}
         self.parent = {n: None for n in names["places_by_name"]}
         index = {p[0]: n for p, n in zip(names["places"], names["places_by_name"])}
         for p, n in zip(names["places"], names["places_by_name"]):
@@ -136,6 +137,14 @@ class Turn:
                 new = None
             if new and (k or parts[k] in ("args", "requires", "ranges") or root == "" or True):
                 parts = [new] + parts[k + 1 :]
+        # what a call left in a borrowed parameter goes by the parameter's name
+        params = self.names.get("params", {}).get(self.callee.get(parts[0]) or "", [])
+        if len(parts) > 2 and parts[1] in ("new", "auto") and params:
+            n = 0
+            while 2 + n < len(parts) and parts[2 + n] == "1":
+                n += 1
+            if 2 + n < len(parts) and parts[2 + n] == "0" and n < len(params):
+                parts = parts[:2] + [params[n]] + parts[3 + n :]
         if root not in self.labels:
             parts = [{"taken": "true", "left": "false"}.get(p, p) if i == 1 and parts[0].isdigit() else p for i, p in enumerate(parts)]
         parts = [p.replace("type-inv", "type_inv").replace("well-formed", "well_formed") for p in parts]
