@@ -1,6 +1,8 @@
 // A chunk's coordinates as the noise of caves takes them, in tables that all its cells share: whole part and smoothed
 // fraction of each octave. Along x the two fields of spaghetti caves have three octaves each, caverns have two and ravines
 // three; along y, and then along z, come the octaves of all but ravines.
+#![tactic(auto)]
+
 ghost use Rattle.std.specs.Prelude.{◌≡◌, ◌≤◌, ◌<◌, length};
 ghost use Rattle.noise_tables.specs.Row.{Row};
 ghost use Rattle.noise_tables.specs.Places.{Noted};

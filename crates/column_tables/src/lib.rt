@@ -1,5 +1,7 @@
 // Where a row of columns lies in the lattice of each noise that `climate` and `relief_at` of `column` ask for, noted once
 // for all rows of a chunk, which share their x. The tables hold octave behind octave, PLACES of each.
+#![tactic(auto)]
+
 ghost use Rattle.std.specs.Prelude.{◌≡◌, ◌≤◌, ◌<◌, length};
 ghost use Rattle.noise_tables.specs.Row.{Row};
 ghost use Rattle.column_tables.specs.Coords.{climate_x, relief_x, lowland_x, column_coord, coords_of, Tabled};

@@ -1,4 +1,6 @@
 // Chunks of one block, by their place alone.
+#![tactic(auto)]
+
 ghost use Rattle.std.specs.Prelude.{◌≡◌, length};
 ghost use Rattle.ground_cell.specs.World.{Tall, Near};
 ghost use Rattle.ground_uniform.specs.Place.{deep_in, sky_in, all_of};
