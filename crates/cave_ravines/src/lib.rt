@@ -1,4 +1,6 @@
 // Which columns of a chunk's row lie on a ravine: `ravine_here` of `cave_plain`, with the larger noise worked out by rows.
+#![tactic(auto)]
+
 ghost use Rattle.std.specs.Prelude.{◌≡◌, ◌≤◌, ◌<◌, length};
 ghost use Rattle.noise_tables.specs.Row.{Flags};
 ghost use Rattle.noise_tables.specs.Places.{Noted};

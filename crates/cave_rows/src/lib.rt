@@ -1,6 +1,8 @@
 // Caves by levels: the same answers as `cave` gives cell by cell, for a row of columns at one level, with what its cells
 // share worked out once. The tables are those of `cave_tables`; the edges keep, of each of the eight octaves, the four
 // rows of the lattice layer that the level lies in.
+#![tactic(auto)]
+
 ghost use Rattle.std.specs.Prelude.{◌≡◌, ◌+◌, ◌*◌, ◌≤◌, ◌<◌, length};
 ghost use Rattle.noise_tables.specs.Row.{Row, Flags};
 ghost use Rattle.noise_tables.specs.Places.{Noted};

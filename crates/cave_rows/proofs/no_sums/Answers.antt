@@ -5,12 +5,8 @@ use lib.Ieee.{nan, of_bits}
 use lib.ListN.{get_or-replicate}
 use Rattle.num_core.specs.Num.{nearest}
 use Rattle.noise_rows.specs.Sums.{zero_at}
-use Rattle.cave_rows.proofs.no_sums.Statement.{statement}
-use Rattle.cave_rows.proofs.no_sums.Tie as tie
+use Rattle.cave_rows.proofs.no_sums.Goals as goal
 
-returns : tie.Need-returns
+pub returns : goal.returns
 unfolding zero_at nearest of_bits
 returns c = record { long = omega arith; holds = λ (i : ℕ) h. get_or-replicate 64 i _ nan h }
-
-pub no_sums_spec : {M : Type 1} → statement M
-no_sums_spec = tie.close (tie.spec returns)
