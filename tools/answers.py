@@ -147,6 +147,7 @@ class Turn:
                 parts = parts[:2] + [params[n]] + parts[3 + n :]
         if root not in self.labels:
             parts = [{"taken": "true", "left": "false"}.get(p, p) if i == 1 and parts[0].isdigit() else p for i, p in enumerate(parts)]
+        parts = ["requires" if p == "pre" else p for p in parts]
         parts = [p.replace("type-inv", "type_inv").replace("well-formed", "well_formed") for p in parts]
         return root + "." + ".".join(parts)
 
