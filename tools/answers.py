@@ -154,7 +154,7 @@ class Turn:
             if 2 + n < len(parts) and parts[2 + n] == "0" and n < len(params):
                 parts = parts[:2] + [params[n]] + parts[3 + n :]
         if root not in self.labels:
-            parts = [{"taken": "true", "left": "false"}.get(p, p) if i == 1 and parts[0].isdigit() else p for i, p in enumerate(parts)]
+            parts = [{"taken": "true", "left": "false"}.get(p, p) if i == 1 and (parts[0].isdigit() or parts[0].startswith("if-") or parts[0].endswith("-test")) else p for i, p in enumerate(parts)]
         parts = ["requires" if p == "pre" else p for p in parts]
         if len(parts) > 1 and parts[0] == "args" and re.fullmatch(r"t\d+", parts[1]) and int(parts[1][1:]) <= len(self.params):
             parts[1] = self.params[int(parts[1][1:]) - 1]
