@@ -93,6 +93,7 @@ class Turn:
         self.asked = {new: at[1] for (old, new), at in zip(names["needs"], names["asked_at"])}
         self.cited_places = set()
         self.env = {}
+        self.steps = {}
         self.gives = {}
         self.left = []
 
@@ -138,6 +139,13 @@ class Turn:
             if new and (k or parts[k] in ("args", "requires", "ranges") or root == "" or True):
                 parts = [new] + parts[k + 1 :]
         # what a call left in a borrowed parameter goes by the parameter's name
+        if root in self.steps and parts[0] in ("new", "auto"):
+            step = self.names.get("params", {}).get(self.callee.get(self.steps[root]) or "", [])
+            n = 0
+            while 1 + n < len(parts) and parts[1 + n] == "1":
+                n += 1
+            if step and 1 + n < len(parts) and parts[1 + n] == "0" and n < len(step):
+                parts = [parts[0], step[n]] + parts[2 + n :]
         params = self.names.get("params", {}).get(self.callee.get(parts[0]) or "", [])
         if len(parts) > 2 and parts[1] in ("new", "auto") and params:
             n = 0
@@ -147,6 +155,7 @@ class Turn:
                 parts = parts[:2] + [params[n]] + parts[3 + n :]
         if root not in self.labels:
             parts = [{"taken": "true", "left": "false"}.get(p, p) if i == 1 and parts[0].isdigit() else p for i, p in enumerate(parts)]
+        parts = ["requires" if p == "pre" else p for p in parts]
         parts = [p.replace("type-inv", "type_inv").replace("well-formed", "well_formed") for p in parts]
         return root + "." + ".".join(parts)
 
@@ -183,6 +192,9 @@ class Turn:
             if made and made[1]:
                 self.env[made[0]] = (made[1], made[2] or made[1])
             code = re.sub(r"(?<![\w'\-.])not-(?:true|false) (?:_|[\w'.\-₀-₉]+|\([^()]*\)) ((?:\([^()]*\)|[\w'₀-₉]+)\.if-[\w'\-]+\.(?:true|false))", r"\1", code)
+            s = re.match(r"\s*let ([\w'₀-₉]+) = .*\.([\w'₀-₉]+(?:-[\w']+)*) in\s*$", code)
+            if s and s[2] in self.callee:
+                self.steps[s[1]] = s[2]
             out.append(code + dash + note)
         return "\n".join(out)
 
@@ -324,6 +336,7 @@ class Turn:
         for n, d in body:
             t = d
             self.env = {}
+            self.steps = {}
             if n in goal_of:
                 g = goal_of[n][0]
                 self.env["c"] = (self.asked[g], g)

@@ -1,4 +1,6 @@
 // A column's climate and relief, read from rows of noise.
+#![tactic(auto)]
+
 ghost use Rattle.std.specs.Prelude.{◌≡◌, ◌<◌, length};
 ghost use Rattle.column_read.specs.Read.{climate_in, relief_in};
 

@@ -1,5 +1,7 @@
 // The noise of a row of columns, as `climate` and `relief_at` of `column` ask for it at each: in rows, by tables that tell
 // where the x of the columns lie in the lattice.
+#![tactic(auto)]
+
 ghost use Rattle.std.specs.Prelude.{◌≤◌, length};
 ghost use Rattle.noise_tables.specs.Row.{Row};
 ghost use Rattle.column_tables.specs.Coords.{Tabled};

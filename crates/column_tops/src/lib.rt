@@ -1,4 +1,6 @@
 // The heights and the biomes of a chunk's columns, with the noise worked out row by row.
+#![tactic(auto)]
+
 ghost use Rattle.std.specs.Prelude.{◌≡◌, ◌++◌, ◌*◌, ◌≤◌, ◌<◌, length, drop};
 ghost use Rattle.grid.specs.Cube.{tab, steps};
 ghost use Rattle.ground_cell.specs.World.{Tall, Near};

@@ -1,4 +1,6 @@
 // A row of columns: their x as the noise takes it, and their heights and biomes by the noise that rows hold.
+#![tactic(auto)]
+
 ghost use Rattle.std.specs.Prelude.{◌≡◌, ◌+◌, ◌*◌, ◌≤◌, ◌<◌, length};
 ghost use Rattle.column.specs.Floats.{real};
 ghost use Rattle.column.specs.Column.{surface_of};

@@ -175,7 +175,13 @@ fn said_lists(
     println!(rt)
 }
 
-fn listed(rt: &impl Print, q: Asked, cells: &[u16], ids: &mut [u16], counts: &mut [u32]) -> io::Result<()> {
+fn listed(
+    rt: &impl Print,
+    q: Asked,
+    cells: &[u16],
+    ids: &mut [u16],
+    counts: &mut [u32],
+) -> io::Result<()> {
     match chunk_tally::tally(cells, q.size, ids, counts) {
         Listed::Ids(n) => said_lists(rt, 0, n, ids, counts),
         Listed::Refused(k) => said_lists(rt, k, 0, ids, counts),

@@ -25,12 +25,7 @@ fn answer(rt: &impl Print, count: u32, cells: &[u16]) -> io::Result<()> {
     println!(rt)
 }
 
-fn lay(
-    rt: &impl Print,
-    config: TerrainConfig,
-    pos: ChunkPos,
-    cells: &mut [u16],
-) -> io::Result<()> {
+fn lay(rt: &impl Print, config: TerrainConfig, pos: ChunkPos, cells: &mut [u16]) -> io::Result<()> {
     match ground::generate(config, pos, cells) {
         Generated::Count(n) => answer(rt, n, cells),
         Generated::Refused(_) => refused(rt),

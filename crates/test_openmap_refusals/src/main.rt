@@ -20,7 +20,10 @@ fn main(rt: HostRuntime) {
     // A first line of six numbers; its size is off the limits, too, and a later line is bad.
     openmap_main::print_map(&rt, b"G\t0\t4096\t256\t65\t0\t128\nX\n");
     // The third line's column is higher than the chunk.
-    openmap_main::print_map(&rt, b"G\t0\t4096\t256\t2\t0\t128\t0\nS\t0\t0\t0\t0\nC\t1\t0\t3\t8\nU\nU\n");
+    openmap_main::print_map(
+        &rt,
+        b"G\t0\t4096\t256\t2\t0\t128\t0\nS\t0\t0\t0\t0\nC\t1\t0\t3\t8\nU\nU\n",
+    );
     // A restore of a name that no line has made.
     openmap_main::print_map(&rt, b"G\t0\t4096\t256\t2\t0\t128\t0\nM\twalls\nR\troof\n");
     // A name with a capital letter.

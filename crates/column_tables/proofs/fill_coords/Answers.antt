@@ -1,4 +1,3 @@
-use Prim.Native.Nat.{◌-◌}
 use native.Mathlib.Omega.{arith}
 use Rattle.column_tables.specs.Coords.{coords_of}
 use Rattle.noise_tables.proofs.Fill.{start, step, end}

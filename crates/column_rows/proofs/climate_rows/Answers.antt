@@ -1,0 +1,16 @@
+-- `column_rows::climate_rows` meets its contract. Assumes nothing.
+use mathlib.Core.List.{List}
+use lib.Ieee.{Float, of_bits, neg}
+use Rattle.num_core.specs.Num.{nearest}
+use Rattle.column_rows.specs.Fields.{temp_row, moisture_row}
+use Rattle.column_rows.proofs.climate_rows.Goals as goal
+
+pub returns : goal.returns
+unfolding nearest of_bits neg
+returns c =
+    record {
+      is = λ (xs : List Float) d. record {
+        warm = temp_row c.args.n xs c.args.floors.now c.args.eases.now d c.args.z _ c.fbm_row.ensures;
+        wet = moisture_row c.args.n xs c.args.floors.now c.args.eases.now d c.args.z _ c.fbm_row-2.ensures;
+      };
+    }
