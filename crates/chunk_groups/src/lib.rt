@@ -1,4 +1,6 @@
 // The groups of a batch: what they change, found before a cell is written, and laid on in their order.
+#![tactic(auto)]
+
 ghost use Rattle.std.specs.Prelude.{◌≡◌, ◌+◌, ◌*◌, ◌/◌, ◌%◌, ◌≤◌, length};
 ghost use Rattle.grid.specs.Cube.{Cube, see_at};
 ghost use Rattle.grid.specs.Differing.{differing};
