@@ -1,14 +1,12 @@
--- How a tally is refused, and what it leaves (SCOPE 5.9, 10.4). Assumes nothing.
-use Rattle.std.specs.Prelude.{◌≡◌, refl, ℕ, ◌≤◌, ◌<◌, Bool, true, false, ◌&&◌, List, [], ◌∷◌, leb, length}
-use Rattle.std.proofs.Common.{sym, ap, ◌∙◌, le-leb, leb-true}
-use Rattle.std.proofs.lemmas.List.Edits.{sets}
+-- How a tally is refused (SCOPE 5.9, 10.4). Assumes nothing.
+use Rattle.std.specs.Prelude.{◌≡◌, refl, ℕ, ◌≤◌, ◌<◌, Bool, true, false, ◌&&◌, List, [], leb, length}
+use Rattle.std.proofs.Common.{sym, le-leb, leb-true}
 use Rattle.std.proofs.lemmas.Bool.{lt-leb}
 use Rattle.basics.specs.Bools.{and_both}
 use Rattle.config.specs.Refusals.{refusal_zero, passed_zero}
-use Rattle.config.specs.Answers.{accepted, refused_with, is_refused, not_refused}
 use Rattle.chunk.specs.Tests.{chunk_refusal, then_chunk, then_stop, then_pass}
-use Rattle.chunk_tally.specs.Ids.{present_ids, present_counts}
-use Rattle.chunk_tally.specs.Tally.{tally_refusal, tally_outcome, chunk_tally_does}
+use Rattle.chunk_tally.specs.Ids.{present_ids}
+use Rattle.chunk_tally.specs.Tally.{tally_refusal}
 
 pub refuse_input : (size : ℕ) (c : List ℕ) (n m : ℕ) → (chunk_refusal size (length c) ≡ 0 → ⊥) → chunk_refusal size (length c) ≡ tally_refusal size c n m
 unfolding tally_refusal
@@ -42,16 +40,3 @@ long_enough size c n m e =
     let p = (passed_zero (chunk_refusal size (length c)) _ e).1 in
     let q = and_both _ _ (refusal_zero _ 12 [] p).0 in
     record { ids = leb-true _ _ q.0; counts = leb-true _ _ q.1 }
-
--- ---- what the call leaves
-
-pub does_refuse : (size : ℕ) (c ids counts : List ℕ) (k : ℕ) → k ≡ tally_refusal size c (length ids) (length counts) → (k ≡ 0 → ⊥)
-    → tally_outcome (refused_with k) ids counts ≡ chunk_tally_does size c ids counts
-unfolding chunk_tally_does
-does_refuse size c ids counts k e h = ap (λ (n : ℕ). tally_outcome (refused_with n) ids counts) e ∙ sym (is_refused _ _ _ (λ q. h (e ∙ q)))
-
-pub does_list : (size : ℕ) (c ids counts ids' counts' : List ℕ) (n : ℕ) → tally_refusal size c (length ids) (length counts) ≡ 0
-    → n ≡ length (present_ids c) → ids' ≡ sets ids 0 (present_ids c) → counts' ≡ sets counts 0 (present_counts c)
-    → tally_outcome (accepted (n ∷ [])) ids' counts' ≡ chunk_tally_does size c ids counts
-unfolding chunk_tally_does
-does_list size c ids counts ids' counts' n e en ei ec = (λ i. tally_outcome (accepted (en i ∷ [])) (ei i) (ec i)) ∙ sym (not_refused _ _ _ e)

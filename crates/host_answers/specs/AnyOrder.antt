@@ -3,7 +3,7 @@ use Rattle.std.specs.Prelude.{◌≡◌, refl, List, ℕ}
 use Rattle.config.specs.Answers.{Answer}
 use Rattle.chunk_tally.specs.Tally.{chunk_tally_does}
 use Rattle.chunk_tally.specs.AnyOrder.{Tallied}
-use Rattle.chunk_tally.specs.Order.{as_before}
+use Rattle.chunk_tally.proofs.Order.{as_before}
 use Rattle.host_answers.specs.declared.Answer.{Answer as AnswerInC}
 use Rattle.host_answers.specs.Answers.{answer_of, TallyAnswered, tally_in_c}
 

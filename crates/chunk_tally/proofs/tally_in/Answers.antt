@@ -5,7 +5,8 @@ use native.Mathlib.Omega.{arith}
 use lib.ListN.{length}
 use Rattle.chunk.specs.Tests.{chunk_passed, chunk_most}
 use Rattle.chunk_tally.specs.Ids.{present_ids}
-use Rattle.chunk_tally.specs.Does.{refuse_input, refuse_ids, refuse_counts, refuse_none, does_refuse, does_list}
+use Rattle.chunk_tally.specs.Does.{refuse_input, refuse_ids, refuse_counts, refuse_none}
+use Rattle.chunk_tally.proofs.Does.{does_refuse, does_list}
 use Rattle.chunk_tally.proofs.tally_in.Goals.{After-count_ids-n, After-list_ids, After-refuse_chunk-k, Else-counts-n, Else-k-ne-OK}
 use Rattle.chunk_tally.proofs.tally_in.Goals as goal
 
