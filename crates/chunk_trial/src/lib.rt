@@ -1,4 +1,6 @@
 // What a batch of any length changes: of a long one, by a dry run on a copy of the cells.
+#![tactic(auto)]
+
 ghost use Rattle.std.specs.Prelude.{◌≡◌, ◌+◌, ◌/◌, ◌≤◌, length, get_or};
 ghost use Rattle.grid.specs.Cube.{Cube};
 ghost use Rattle.grid.specs.Count.{non_air_count};
