@@ -154,8 +154,10 @@ class Turn:
             if 2 + n < len(parts) and parts[2 + n] == "0" and n < len(params):
                 parts = parts[:2] + [params[n]] + parts[3 + n :]
         if root not in self.labels:
-            parts = [{"taken": "true", "left": "false"}.get(p, p) if i == 1 and parts[0].isdigit() else p for i, p in enumerate(parts)]
+            parts = [{"taken": "true", "left": "false"}.get(p, p) if i == 1 and (parts[0].isdigit() or parts[0].startswith("if-") or parts[0].endswith("-test")) else p for i, p in enumerate(parts)]
         parts = ["requires" if p == "pre" else p for p in parts]
+        if len(parts) > 1 and parts[0] == "args" and re.fullmatch(r"t\d+", parts[1]) and int(parts[1][1:]) <= len(self.params):
+            parts[1] = self.params[int(parts[1][1:]) - 1]
         parts = [p.replace("type-inv", "type_inv").replace("well-formed", "well_formed") for p in parts]
         return root + "." + ".".join(parts)
 
@@ -477,6 +479,9 @@ def main():
             continue
         text = open(os.path.join(folder, "Proof.antt"), encoding="utf-8").read()
         t = Turn(cname, path, names[key])
+        code = "\n".join(open(os.path.join(f, n), encoding="utf-8").read() for f, d, ns in os.walk(os.path.join(crate, "src")) for n in ns if n.endswith(".rt"))
+        sig = re.search(r"\bfn " + re.escape(path.split(".")[-1]) + r"\s*\(([^)]*)\)", code)
+        t.params = re.findall(r"(\w+): ", sig[1]) if sig else []
         try:
             done, dropped = t.run(text)
         except Stop as e:

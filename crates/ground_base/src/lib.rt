@@ -1,4 +1,6 @@
 // The ground before boulders and trees: the first pass of terrain.rs, laid in the order of the cells.
+#![tactic(auto)]
+
 ghost use Rattle.std.specs.Prelude.{◌≡◌, ◌*◌, ◌≤◌, length};
 ghost use Rattle.grid.specs.Cube.{Cube};
 ghost use Rattle.noise_tables.specs.Places as places;

@@ -1,4 +1,6 @@
 // A chunk's rows of columns, laid level by level: a row's cells share most of what their caves cost.
+#![tactic(auto)]
+
 ghost use Rattle.std.specs.Prelude.{◌≡◌, ◌+◌, ◌*◌, ◌≤◌, ◌<◌, length};
 ghost use Rattle.noise_tables.specs.Places as places;
 ghost use Rattle.cave_tables.specs.Coords.{cave_coord};

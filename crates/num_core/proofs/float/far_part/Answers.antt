@@ -1,77 +1,51 @@
 -- `num_core::far_part` meets its contract. Assumes nothing.
 use mathlib.Core.Path.{◌≡◌, ◌∙◌, ap}
-use mathlib.Core.Bool.{false}
 use Rattle.basics.specs.Words.{read}
-use lib.IntN.{pos}
-use lib.Ieee.{Float, fin, binary32, sub, of_bits, neg, of_int, to_signed}
+use lib.Ieee.{Float, binary32, of_bits, neg, of_int, to_signed}
 use lib.Ieee.Casts.{to_signed_in}
 use mir.Syntax.{w32}
 use mir.Val.{of_z, to_z}
 use mir.ValLaws.{to_z-of_z}
 use Rattle.num_core.specs.Num.{floor_i, to_i32}
 use Rattle.basics.specs.Bools.{is_T}
-use Rattle.num_core.proofs.Floor.{Fast, lift, sink, fast_above, fast_below, far_above, far_below}
-use Rattle.num_core.proofs.float.far_part.Goals.{After-row_known-1, After-row_known-then-t-x-2-1, After-row_known-then-x-2-1, After-row_known-then-x-3-1, then-x+else-x-2, else-x+else-x-3}
+use Rattle.num_core.proofs.Floor.{Fast, fast_above, fast_below, far_above, far_below}
+use Rattle.num_core.proofs.float.far_part.Goals.{then-x+else-x-2, else-x+else-x-3}
 use Rattle.num_core.proofs.float.far_part.Goals as goal
 
 answer : {x g : Float} → Fast x g → (to_z w32 (of_z w32 (to_signed 31 g)) ≡ floor_i x) × (g ≡ of_int binary32 (floor_i x))
 answer {x} {g} f = (to_z-of_z w32 (to_signed 31 g) (record { sfits = to_signed_in 31 g }) ∙ f.int, f.float)
 
-under : (c : After-row_known-1)
-    → Fast c.args.x (sub binary32 (sink c.args.x) (fin false 1 (pos 0)))
-unfolding of_bits neg
-under c =
-    (fast_below c.args.x c.if-x.true c.if-x-2.true).0 c.if-t-x.true
-
-under2 : (c : After-row_known-then-x-2-1)
-    → Fast c.args.x (sink c.args.x)
-unfolding of_bits neg
-under2 c =
-    (fast_below c.args.x c.if-x.true c.if-x-2.true).1 c.if-t-x.false
-
-over : (c : After-row_known-then-t-x-2-1)
-    → Fast c.args.x (sub binary32 (lift c.args.x) (fin false 1 (pos 0)))
-unfolding of_bits neg
-over c =
-    (fast_above c.args.x (is_T c.well_formed.0.1) c.if-x.false c.if-x-3.true).0 c.if-t-x-2.true
-
-over2 : (c : After-row_known-then-x-3-1)
-    → Fast c.args.x (lift c.args.x)
-unfolding of_bits neg
-over2 c =
-    (fast_above c.args.x (is_T c.well_formed.0.1) c.if-x.false c.if-x-3.true).1 c.if-t-x-2.false
-
 pub float_to_int-result : goal.float_to_int-result
 unfolding of_bits neg
-float_to_int-result c = (under c).casts
+float_to_int-result c = ((fast_below c.args.x c.if-x.true c.if-x-2.true).0 c.if-t-x.true).casts
 
 pub returns-then-t-x : goal.returns-then-t-x
 unfolding of_bits neg
-returns-then-t-x c = answer (under c)
+returns-then-t-x c = answer ((fast_below c.args.x c.if-x.true c.if-x-2.true).0 c.if-t-x.true)
 
 pub float_to_int-result-then-x-2 : goal.float_to_int-result-then-x-2
 unfolding of_bits neg
-float_to_int-result-then-x-2 c = (under2 c).casts
+float_to_int-result-then-x-2 c = ((fast_below c.args.x c.if-x.true c.if-x-2.true).1 c.if-t-x.false).casts
 
 pub returns-then-x-2 : goal.returns-then-x-2
 unfolding of_bits neg
-returns-then-x-2 c = answer (under2 c)
+returns-then-x-2 c = answer ((fast_below c.args.x c.if-x.true c.if-x-2.true).1 c.if-t-x.false)
 
 pub float_to_int-result-then-t-x-2 : goal.float_to_int-result-then-t-x-2
 unfolding of_bits neg
-float_to_int-result-then-t-x-2 c = (over c).casts
+float_to_int-result-then-t-x-2 c = ((fast_above c.args.x (is_T c.well_formed.0.1) c.if-x.false c.if-x-3.true).0 c.if-t-x-2.true).casts
 
 pub returns-then-t-x-2 : goal.returns-then-t-x-2
 unfolding of_bits neg
-returns-then-t-x-2 c = answer (over c)
+returns-then-t-x-2 c = answer ((fast_above c.args.x (is_T c.well_formed.0.1) c.if-x.false c.if-x-3.true).0 c.if-t-x-2.true)
 
 pub float_to_int-result-then-x-3 : goal.float_to_int-result-then-x-3
 unfolding of_bits neg
-float_to_int-result-then-x-3 c = (over2 c).casts
+float_to_int-result-then-x-3 c = ((fast_above c.args.x (is_T c.well_formed.0.1) c.if-x.false c.if-x-3.true).1 c.if-t-x-2.false).casts
 
 pub returns-then-x-3 : goal.returns-then-x-3
 unfolding of_bits neg
-returns-then-x-3 c = answer (over2 c)
+returns-then-x-3 c = answer ((fast_above c.args.x (is_T c.well_formed.0.1) c.if-x.false c.if-x-3.true).1 c.if-t-x-2.false)
 
 pub returns : goal.returns
 unfolding of_bits neg

@@ -8,11 +8,11 @@ use mir.Syntax.{w32}
 use mir.ValLaws.{to_z-of_z}
 use Rattle.basics.specs.Bools.{is_T, and_both}
 use Rattle.num_core.proofs.Floor.{Fast, fast_centre}
-use Rattle.num_core.proofs.float.floor_part.Goals.{After-row_known-1, then-t-x, else-t-x}
+use Rattle.num_core.proofs.float.floor_part.Goals.{Joined-t-x, then-t-x, else-t-x}
 use Rattle.num_core.proofs.float.floor_part.Goals as goal
 
 -- the float that is answered, by whichever arm it came
-near : (c : After-row_known-1) → Fast c.args.x c.if-t-x.f
+near : (c : Joined-t-x) → Fast c.args.x c.if-t-x.f
 unfolding of_bits neg
 near c =
     let x = c.args.x in
@@ -24,9 +24,9 @@ near c =
     ]
 
 pub float_to_int-result : goal.float_to_int-result
-float_to_int-result c = (near c).casts
+float_to_int-result c = (near (goal.at.float_to_int-result c).Joined-t-x).casts
 
 pub returns-after-t-x : goal.returns-after-t-x
 returns-after-t-x c =
-    let f = near c in
+    let f = near (goal.at.returns-after-t-x c).Joined-t-x in
     (to_z-of_z w32 (to_signed 31 c.if-t-x.f) (record { sfits = to_signed_in 31 c.if-t-x.f }) ∙ f.int, f.float)
