@@ -1,4 +1,6 @@
 // The bare batch: groups of four numbers, any number of them, of which those in the chunk are laid on in their order.
+#![tactic(auto)]
+
 ghost use Rattle.std.specs.Prelude.{◌≡◌, ◌≤◌};
 ghost use Rattle.config.specs.Answers.{cells_outcome};
 ghost use Rattle.chunk.specs.Tests.{count_refusal};
