@@ -27,7 +27,7 @@ place_trees-requires c =
       c.requires.1,
       n.long,
       n.longer,
-      record { most = q.most; all = c.cells-2-1.given ∙ c.cells-1.given ∙ q.all },
+      record { most = q.most; all = c.place_boulders.auto.cells ∙ c.lay_base.auto.cells ∙ q.all },
       (λ k g. subst (λ (u : ℕ). 1 ≤ u) (sym (n.heights k g)) (column_least a.w a.o c.requires.0 k)),
       omega arith,
       omega arith,
