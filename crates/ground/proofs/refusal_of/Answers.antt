@@ -1,5 +1,5 @@
 -- `ground::refusal_of` meets its contract. Assumes nothing.
-use Rattle.std.proofs.Common.{◌≡◌, ◌*◌, eqb, [], ◌∷◌, pos, sym, ◌∙◌, arith, eq-eqb, ne_eqb}
+use Rattle.std.proofs.Common.{◌≡◌, ◌*◌, eqb, [], ◌∷◌, sym, ◌∙◌, arith, eq-eqb, ne_eqb}
 use Rattle.config.specs.Refusals.{refusal_pass, refusal_stop, refusal_none, passed_on, passed_stop, must}
 use Rattle.config.specs.Limits.{limit_refusal, config_header, fine}
 use Rattle.grid.specs.Grid.{square_most, cube_most}
