@@ -1,4 +1,6 @@
 // The lines that the program prints (SCOPE 11.2 to 11.4), piece behind piece into a borrowed buffer: fields, and the first line.
+#![tactic(auto)]
+
 ghost use Rattle.std.specs.Prelude.{[], ◌∷◌, ◌≤◌, length};
 ghost use Rattle.text.specs.Decimal.{decimal};
 ghost use Rattle.openmap_lines.specs.Text.{ok_text, no_text};
