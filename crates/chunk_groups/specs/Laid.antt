@@ -10,7 +10,8 @@ use Rattle.grid.specs.Grid.{index_lt, index_x, index_y, index_z, out_x, out_y, o
 use Rattle.chunk.specs.Tests.{Inside}
 use Rattle.chunk.specs.Moves.{put_inside, see_inside}
 use Rattle.grid_edits.specs.Edits.{Group, batch_groups, group_inside, inside_groups, put_group, batch_cells}
-use Rattle.journal_write.specs.Groups.{group_of, groups_step, groups_last}
+use Rattle.journal_write.specs.Groups.{group_of, groups_last}
+use Rattle.journal_write.proofs.Groups.{groups_step}
 
 -- the first k groups of the batch ns
 unfoldable pub laid : ℕ → List ℕ → ℕ → List ℕ → List ℕ

@@ -1,4 +1,6 @@
 // The ground of a chunk: `generate` of terrain.rs.
+#![tactic(auto)]
+
 ghost use Rattle.std.specs.Prelude.{◌≡◌, ◌≤◌, pos, ◌*ℤ◌};
 ghost use Rattle.std.specs.Int.Signed.{mag};
 ghost use Rattle.config.specs.Limits.{Between, Fine};

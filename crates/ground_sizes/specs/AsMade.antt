@@ -1,7 +1,7 @@
 -- Calls as they were made: `note_tops` notes the columns of a chunk, `lay_base` lays its rows before boulders and trees, `generate` lays the chunk
 -- (SCOPE 4.6 to 4.10, 4.15). What a caller learns of each is read off its contract. A change of a contract makes this module fail. Assumes nothing.
 use Rattle.std.specs.Prelude.{◌≡◌, refl, List, ◌++◌, ℕ, ◌*◌, Float, drop}
-use Rattle.std.specs.Borrow.{Bor}
+use Rattle.std.specs.Borrow.{Bor, MutBor}
 use contract.Lifetimes.{Lfts}
 use Rattle.config.specs.Answers.{cells_outcome}
 use Rattle.config.specs.declared.TerrainConfig.{TerrainConfig}
@@ -16,12 +16,19 @@ use Rattle.ground.specs.declared.Generated.{Generated}
 use Rattle.ground.specs.declared.Generated.TheVariants.{Count}
 use Rattle.ground.proofs.generate.Reads as generate_reads
 
--- a lent slice of whole numbers, and of f32; `now` is what it holds
+-- a slice of whole numbers, and of f32, that is lent to be written; `now` is what it holds
 abbrev pub LentNumbers : Type 0
-LentNumbers = Bor (List ℕ)
+LentNumbers = MutBor (List ℕ)
 
 abbrev pub LentFloats : Type 0
-LentFloats = Bor (List Float)
+LentFloats = MutBor (List Float)
+
+-- .. and that is lent to be read
+abbrev pub ReadNumbers : Type 0
+ReadNumbers = Bor (List ℕ)
+
+abbrev pub ReadFloats : Type 0
+ReadFloats = Bor (List Float)
 
 -- what `note_tops` was given, and what it left (')
 pub record TopsCall : Type 1 where
@@ -40,10 +47,10 @@ pub record BaseCall : Type 1 where
   pub lifetimes : Lfts 5
   pub first : ℕ
   pub last : ℕ
-  pub heights : LentNumbers
-  pub biomes : LentNumbers
-  pub floors : LentNumbers
-  pub eases : LentFloats
+  pub heights : ReadNumbers
+  pub biomes : ReadNumbers
+  pub floors : ReadNumbers
+  pub eases : ReadFloats
   pub cells : LentNumbers
   pub cells' : LentNumbers
 

@@ -15,15 +15,22 @@ use Rattle.ground_cell.specs.World.{Tall, base_cell}
 use Rattle.ground_cell.specs.Base.{base_numbered, base_cells, column_height, column_biome}
 use Rattle.ground_cell.specs.Laws.{base_length, base_above, height_most}
 use Rattle.ground.specs.Ground.{world_of, frame_of, ground, generate_refusal, generate_does}
-use Rattle.ground_sizes.specs.AsMade.{LentNumbers, LentFloats, NotedTops, LaidRows, Generates}
+use Rattle.ground_sizes.specs.AsMade.{LentNumbers, LentFloats, ReadNumbers, ReadFloats, NotedTops, LaidRows, Generates}
 use Rattle.ground_sizes.specs.Statement.{Lies, RowCovered}
 
--- a slice somewhere that holds these numbers, and one of f32 that holds none
+-- a slice somewhere that holds these numbers, and one of f32 that holds none, to be written
 abbrev holding : List ℕ → LentNumbers
-holding ns = record { ref_ptr = (0, 0); now = ns }
+holding ns = record { ref_ptr = (0, 0); ghost_name = 0; now = ns }
 
 abbrev no_floats : LentFloats
-no_floats = record { ref_ptr = (0, 0); now = [] }
+no_floats = record { ref_ptr = (0, 0); ghost_name = 0; now = [] }
+
+-- .. and to be read: they hold nothing
+abbrev no_numbers : ReadNumbers
+no_numbers = record { ref_ptr = (0, 0); now = [] }
+
+abbrev none_read : ReadFloats
+none_read = record { ref_ptr = (0, 0); now = [] }
 
 module _ (s : TerrainConfig) (p : ChunkPos) where
   abbrev noted : (ℕ → ℕ) → LentNumbers
@@ -53,10 +60,10 @@ module _ (s : TerrainConfig) (p : ChunkPos) where
       lifetimes = ([], ([], ([], ([], ([], tt)))));
       first = 0;
       last = (frame_of s p).size;
-      heights = holding [];
-      biomes = holding [];
-      floors = holding [];
-      eases = no_floats;
+      heights = no_numbers;
+      biomes = no_numbers;
+      floors = no_numbers;
+      eases = none_read;
       cells = holding (base_cells (world_of s) (frame_of s p));
       cells' = holding (base_cells (world_of s) (frame_of s p));
     };

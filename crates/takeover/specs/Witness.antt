@@ -13,12 +13,15 @@ use Rattle.session_calls.specs.Calls.{Outcome, begun, session_fresh_does, sessio
 use Rattle.takeover_model.specs.Model.{Call}
 use Rattle.takeover_model.specs.Model as M
 use Rattle.takeover_model.specs.Statement.{Tablet, leaves, does}
-use Rattle.takeover.specs.AsMade.{Lent, Turn, Note, Made, First, Second}
+use Rattle.takeover.specs.AsMade.{Lent, Shown, Turn, Note, Made, First, Second}
 use Rattle.takeover.specs.AsMade as C
 
--- a slice somewhere that holds these numbers
+-- a slice somewhere that holds these numbers, to be written, and to be read
 abbrev holding : List ℕ → Lent
-holding ns = record { ref_ptr = (0, 0); now = ns }
+holding ns = record { ref_ptr = (0, 0); ghost_name = 0; now = ns }
+
+abbrev showing : List ℕ → Shown
+showing ns = record { ref_ptr = (0, 0); now = ns }
 
 abbrev two : Lfts 2
 two = ([], ([], tt))
@@ -71,7 +74,7 @@ makes t (M.column x z height id h ∷ ks) =
 makes t (M.batch ns ∷ ks) =
     let o = does t (M.batch ns) in
     let rest = makes (leaves o) ks in
-    more o rest (C.batch three (turn t o) (holding ns) refl rest.made)
+    more o rest (C.batch three (turn t o) (showing ns) refl rest.made)
 makes t (M.undo ∷ ks) =
     let o = does t M.undo in
     let rest = makes (leaves o) ks in
@@ -79,11 +82,11 @@ makes t (M.undo ∷ ks) =
 makes t (M.checkpoint n ∷ ks) =
     let o = does t (M.checkpoint n) in
     let rest = makes (leaves o) ks in
-    more o rest (C.checkpoint two (note t o) (holding n) t.cells refl rest.made)
+    more o rest (C.checkpoint two (note t o) (showing n) t.cells refl rest.made)
 makes t (M.restore n ∷ ks) =
     let o = does t (M.restore n) in
     let rest = makes (leaves o) ks in
-    more o rest (C.restore three (turn t o) (holding n) refl rest.made)
+    more o rest (C.restore three (turn t o) (showing n) refl rest.made)
 
 -- a fresh session that is accepted is a first tablet
 abbrev pub first : (config : TerrainConfig) (place : ChunkPos) (c j : List ℕ) (s : Session) → (session_fresh_does config place c j).answer ≡ Started s → First
@@ -106,7 +109,7 @@ abbrev pub second : (c j : List ℕ) (held : ℕ) → Second
 second c j held = record {
   lifetimes = two;
   cells = holding c;
-  journal = holding j;
+  journal = showing j;
   held = held;
   answer = (session_reopen_does c j held).answer;
   cells' = holding (session_reopen_does c j held).cells;

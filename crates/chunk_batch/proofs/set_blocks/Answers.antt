@@ -9,7 +9,7 @@ use Rattle.chunk.specs.Tests.{Chunk, CountOk, chunk_refusal, chunk_passed, cube_
 use Rattle.config.specs.Answers.{accepted, cells_outcome}
 use Rattle.chunk.specs.Moves.{edit_input, edit_count, edit_done}
 use Rattle.chunk_batch.specs.Calls.{chunk_batch_does}
-use Rattle.chunk_batch.proofs.set_blocks.Goals.{Else-k-ne-OK, Else-m-ne-OK, Start}
+use Rattle.chunk_batch.proofs.set_blocks.Goals.{After-any_change-change, After-count_inside-n, After-lay_groups, Else-k-ne-OK, Else-m-ne-OK, Start}
 use Rattle.chunk_batch.proofs.set_blocks.Goals as goal
 
 pub returns-then-k-ne-OK : goal.returns-then-k-ne-OK
@@ -37,7 +37,8 @@ refuse_change-m-requires c =
 pub returns-then-m-ne-OK : goal.returns-then-m-ne-OK
 unfolding chunk_batch_does
 returns-then-m-ne-OK c =
-    edit_count _ _ _ _ _ _ _ _ (none (goal.at.returns-then-m-ne-OK c).Else-k-ne-OK) c.any_change-change.ensures.moves _ c.refuse_change-m.ensures c.if-m-ne-OK.true
+    let b = (goal.at.returns-then-m-ne-OK c).After-any_change-change in
+    edit_count _ _ _ _ _ _ _ _ (none (goal.at.After-any_change-change b).Else-k-ne-OK) b.any_change-change.ensures.moves _ c.refuse_change-m.ensures c.if-m-ne-OK.true
 
 -- past the count's test
 abbrev first : Else-m-ne-OK → Else-k-ne-OK
@@ -62,8 +63,10 @@ overflow_cast-total-2 c =
 pub returns : goal.returns
 unfolding chunk_batch_does
 returns c =
-    let e = (goal.at.returns c).Else-m-ne-OK in
+    let l = (goal.at.returns c).After-lay_groups in
+    let n = (goal.at.After-lay_groups l).After-count_inside-n in
+    let e = (goal.at.After-count_inside-n n).Else-m-ne-OK in
     let a = (start (first e)).args in
     let r = e.any_change-change.result in
-    ap₂ (λ (k : ℕ) (d : List ℕ). cells_outcome (accepted (k ∷ (a.count + r.after - r.before) ∷ [])) d) c.count_inside-n.ensures c.lay_groups.ensures
+    ap₂ (λ (k : ℕ) (d : List ℕ). cells_outcome (accepted (k ∷ (a.count + r.after - r.before) ∷ [])) d) n.count_inside-n.ensures l.lay_groups.ensures
     ∙ edit_done _ _ _ (_ ∷ []) _ _ _ _ (none (first e)) e.any_change-change.ensures.moves _ e.refuse_change-m.ensures e.if-m-ne-OK.false
