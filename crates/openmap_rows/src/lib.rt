@@ -1,4 +1,6 @@
 // The rows of a map, as the program prints them (SCOPE 11.2): into a borrowed buffer, row behind row.
+#![tactic(auto)]
+
 ghost use Rattle.openmap_lines.specs.Text.{row_text, layer_text, map_text};
 ghost use Rattle.openmap_lines.specs.Appended.{Appended};
 ghost use Rattle.openmap_rows.specs.Lays.{Lays};
