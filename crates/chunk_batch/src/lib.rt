@@ -18,6 +18,7 @@ pub enum BatchReply {
 
 // Refusal 21 of a count that a batch moves by after - before, or 0. A slice holds fewer than 2^62 groups,
 // so the sum fits.
+#[tactic(auto, using(chunk::specs::Tests::count_held))]
 fn refuse_change(size: usize, count: u32, before: usize, after: usize) -> u32
     requires { (size ≤ 64) × (after ≤ 4611686018427387904) }
     ensures { result ≡ count_refusal size count before after }

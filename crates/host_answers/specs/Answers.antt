@@ -6,7 +6,7 @@ use Rattle.config.specs.Answers.{Answer, accepted, refused, CellsOutcome, cells_
 use Rattle.chunk_border.specs.declared.Face.{Face}
 use Rattle.chunk_border.specs.declared.Face.TheVariants.{PosX, NegX, PosY, NegY, PosZ, NegZ}
 use Rattle.chunk_border.specs.Border.{chunk_border_does, bordered, Bordered}
-use Rattle.chunk_tally.specs.Tally.{TallyOutcome, tally_outcome}
+use Rattle.chunk_tally.specs.Tally.{TallyOutcome}
 use Rattle.planes.specs.Planes.{PlanesOutcome, planes_outcome}
 use Rattle.host_answers.specs.declared.Answer.{Answer as AnswerInC}
 use Rattle.host_answers.specs.declared.BatchAnswer.{BatchAnswer as BatchAnswerInC}
@@ -135,10 +135,6 @@ pub border_in_c_lem : (n size : ℕ) (face : Face) (c b b' : List ℕ) (r : Answ
     → face_of n ≡ some face → r ≡ answer_of a → bordered a b' ≡ chunk_border_does face size c b → border_answered r b' ≡ border_in_c_does n size c b
 unfolding border_in_c_does
 border_in_c_lem n size face c b b' r a g e f = rw g (ap (λ (u : AnswerInC). border_answered u b') e ∙ ap border_in_c f)
-
-pub tally_in_c_lem : (r : AnswerInC) (a : Answer) (ids counts : List ℕ) (o : TallyOutcome)
-    → r ≡ answer_of a → tally_outcome a ids counts ≡ o → tally_answered r ids counts ≡ tally_in_c o
-tally_in_c_lem r a ids counts o e f = ap (λ (u : AnswerInC). tally_answered u ids counts) e ∙ ap tally_in_c f
 
 pub planes_in_c_lem : (r : AnswerInC) (a : Answer) (b : List ℕ) (o : PlanesOutcome)
     → r ≡ answer_of a → planes_outcome a b ≡ o → planes_answered r b ≡ planes_in_c o

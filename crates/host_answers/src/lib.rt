@@ -1,5 +1,7 @@
 // Each answer of a call on cells in numbers, for the C boundary: the refusal's number (SCOPE 10), 0 where the call is accepted, its line,
 // and its values.
+#![tactic(auto)]
+
 ghost use Rattle.std.specs.Prelude.{◌≡◌, ◌≤◌};
 ghost use Rattle.std.proofs.Math.Option.{some};
 ghost use Rattle.ground.specs.Ground.{says_generated};

@@ -19,9 +19,6 @@ overflow_mul-w c = let i = c.loop-w.invariant.0 in omega arith
 pub count_window-requires : goal.count_window-requires
 count_window-requires c = (c.loop-w.invariant.2, c.requires.1)
 
-pub overflow_mul-w-in-loop-w : goal.overflow_mul-w-in-loop-w
-overflow_mul-w-in-loop-w c = let i = c.loop-w.invariant.0 in omega arith
-
 pub write_window-at-requires : goal.write_window-at-requires
 write_window-at-requires c =
     let a = c.args in

@@ -1,5 +1,5 @@
 -- `host::pl_tally` meets its contract: `tally_in_c_lem` carries the library's equation over. Assumes nothing.
-use Rattle.host_answers.specs.Answers.{tally_in_c_lem}
+use Rattle.host_answers.proofs.Tally.{tally_in_c_lem}
 use borrow.Author.Rules.{rules}
 use Rattle.host.proofs.pl_tally.Statement.{statement}
 use Rattle.host.proofs.pl_tally.Tie as tie
