@@ -1,4 +1,6 @@
 // The answer of a fresh session (SCOPE 7.2) and of reopening (SCOPE 9.3) in numbers, for the C boundary.
+#![tactic(auto)]
+
 ghost use Rattle.std.specs.Prelude.{◌≡◌};
 ghost use Rattle.host_starts.specs.Sessions.{started_in_c, not_started, fresh_start, reopen_start};
 
