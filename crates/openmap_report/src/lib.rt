@@ -1,4 +1,6 @@
 // The text of a reopened map, as the program prints it (SCOPE 11.2, 11.3): written into a borrowed buffer, piece behind piece.
+#![tactic(auto)]
+
 ghost use Rattle.std.specs.Prelude.{◌≡◌, ◌≤◌, nat_abs, leb};
 ghost use Rattle.basics.specs.Bools.{pick};
 ghost use Rattle.session_calls.specs.Record.{cube};
