@@ -75,6 +75,7 @@ fn mountain(depth: i64, wy: i32, height: i32) -> u16
 }
 
 // The top of a forest or of plains: sand up to 2 above the sea.
+#[tactic(auto, unfolding(crate::specs::Blocks::shore_block))]
 fn shore(height: i32, sea_level: i32) -> u16
     ensures { result ≡ shore_block height sea_level }
 {
