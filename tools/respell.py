@@ -21,6 +21,7 @@ IN_FILE = {
     "crates/journal_format/specs/Follow.antt": {"after_line": "after_line_lem"},
     "crates/chunk_tally/specs/Ids.antt": {"bump_at": "bump_at_lem"},
     "crates/marked/specs/Example.antt": {"holds": "Holds"},
+    "crates/marked/specs/Ground.antt": {"holds": "Holds"},
     "crates/takeover/specs/Contracts.antt": {"set_Reads": "set_reads"},
 }
 

@@ -15,7 +15,7 @@ use Rattle.ground_cell.specs.World.{height_at}
 use Rattle.ground_trees.specs.Features.{leaf_radius, radii, crown_of, boulder_height, boulder_blocks}
 use Rattle.grid.specs.Cube.{tab}
 use Rattle.ground.specs.Ground.{world_of}
-use Rattle.marked.specs.Example.{Example, number, numbers, everywhere, holds, AllHold, end, ◌and◌}
+use Rattle.marked.specs.Example.{Example, number, numbers, everywhere, Holds, AllHold, end, ◌and◌}
 
 -- a desert's block at a depth; the topmost block of a column of a height, with the sea at 24
 abbrev desert_at : ℕ → ℕ
@@ -100,7 +100,7 @@ one_high wx wz sea top offset e =
     let m = r.most in
     rw e (omega arith)
 
-low_world_lem : holds low_world
+low_world_lem : Holds low_world
 unfolding world_of height_at
 low_world_lem s e wx wz =
     let w = world_of s in

@@ -256,12 +256,12 @@ loop-o-preserved c =
     let j = c.if-floors-level in
     let k : LayersTo (l.o + 1) a.y a.z a.n fs es j.edges × LayersFrom (l.o + 1) a.from a.z a.n fs es j.edges × (length j.edges ≡ 2048) =
     elim j.branch [
-      then-floors-level w ↦ (
+      | then-floors-level w ↦ (
         subst (LayersTo (l.o + 1) a.y a.z a.n fs es) (sym w.edges-is) (to_more a.y a.z a.n fs es m l.o l.edges _ w.layer_rows.ensures l.invariant.1),
         subst (LayersFrom (l.o + 1) a.from a.z a.n fs es) (sym w.edges-is) (from_kept a.y a.z a.n fs es m l.o a.from l.edges _ w.layer_rows.ensures l.invariant.2),
         ap length w.edges-is ∙ w.layer_rows.ensures.long ∙ e,
       )
-    | else-floors-level w ↦ (
+      | else-floors-level w ↦ (
         subst (LayersTo (l.o + 1) a.y a.z a.n fs es) (sym w.edges-is) (to_same a.y a.z a.n fs es m l.o a.from l.edges t w.if-floors-level.false l.invariant.2 l.invariant.1),
         subst (LayersFrom (l.o + 1) a.from a.z a.n fs es) (sym w.edges-is) (from_less a.y a.z a.n fs es m l.o a.from l.edges l.invariant.2),
         ap length w.edges-is ∙ e,
