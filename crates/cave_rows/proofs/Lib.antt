@@ -1,3 +1,0 @@
-mod Sums
-mod Columns
-mod Flags

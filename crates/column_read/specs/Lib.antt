@@ -1,2 +1,0 @@
-pub mod Read
-pub mod Laws

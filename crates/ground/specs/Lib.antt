@@ -1,3 +1,0 @@
-pub mod Ground
-pub mod Facts
-pub mod Laws

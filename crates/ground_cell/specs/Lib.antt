@@ -1,5 +1,0 @@
-pub mod Blocks
-pub mod Caves
-pub mod World
-pub mod Base
-pub mod Laws

@@ -1,2 +1,0 @@
-// Where the ground is hollow: `cave_plain` re-exported.
-pub use cave_plain::{cave, ravine_with};

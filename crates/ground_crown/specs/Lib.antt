@@ -1,3 +1,0 @@
-pub mod Crown
-pub mod Radii
-pub mod Slabs

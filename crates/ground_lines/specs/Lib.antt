@@ -1,3 +1,0 @@
-pub mod Lines
-pub mod Range
-pub mod Laws

@@ -1,1 +1,0 @@
-// Chunks of two sizes over one world: definitions and laws only.

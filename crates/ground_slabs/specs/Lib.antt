@@ -1,4 +1,0 @@
-pub mod Grown
-pub mod Stands
-pub mod Far
-pub mod Slabs

@@ -1,2 +1,0 @@
-// Laws only: some slabs of the ground laid without the others.
-#![tactic(auto)]

@@ -1,4 +1,0 @@
-pub mod Signs
-pub mod Features
-pub mod Kept
-pub mod Slabs

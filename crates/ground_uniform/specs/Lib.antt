@@ -1,5 +1,0 @@
-pub mod Place
-pub mod Reach
-pub mod Untouched
-pub mod Laws
-pub mod Counts

@@ -1,3 +1,0 @@
-mod Thin
-mod Forms
-mod ThinSlice

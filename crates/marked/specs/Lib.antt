@@ -1,3 +1,0 @@
-pub mod Example
-pub mod Ground
-pub mod Marked

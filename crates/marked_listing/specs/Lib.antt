@@ -1,2 +1,0 @@
-pub mod Sky
-pub mod Listing

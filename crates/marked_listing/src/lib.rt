@@ -1,1 +1,0 @@
-// SCOPE 12 k, the listing, as a theorem (specs/); no functions.

@@ -1,4 +1,0 @@
-pub mod Text
-pub mod Fits
-pub mod Report
-pub mod Laws

@@ -1,3 +1,0 @@
-pub mod Slabs
-pub mod Notes
-pub mod Entries
