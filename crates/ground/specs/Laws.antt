@@ -7,7 +7,7 @@ use Rattle.config.specs.declared.ChunkPos.{ChunkPos}
 use Rattle.grid.specs.Cube.{cell_index}
 use Rattle.ground_cell.specs.World.{Tall, height_at}
 use Rattle.ground_cell.specs.Base.{base_cells}
-use Rattle.ground_cell.specs.Laws.{base_length, base_ids, base_at, base_solid, height_least, height_most}
+use Rattle.ground_cell.proofs.Laws.{base_length, base_ids, base_at, base_solid, height_least, height_most}
 use Rattle.ground_cell.specs.declared.world.World.{World}
 use Rattle.ground_cell.specs.declared.world.Frame.{Frame}
 use Rattle.ground_trees.specs.Features.{boulders_of, top_of}

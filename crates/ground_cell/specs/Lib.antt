@@ -2,4 +2,3 @@ pub mod Blocks
 pub mod Caves
 pub mod World
 pub mod Base
-pub mod Laws

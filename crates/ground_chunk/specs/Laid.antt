@@ -4,7 +4,7 @@ use Rattle.std.proofs.Common.{ap, ◌∙◌}
 use Rattle.grid.specs.Cube.{tab}
 use Rattle.grid.specs.Grid.{fill_at}
 use Rattle.ground_cell.specs.Base.{column_height, column_biome, TopsNoted, base_cells}
-use Rattle.ground_cell.specs.Laws.{base_length}
+use Rattle.ground_cell.proofs.Laws.{base_length}
 use Rattle.ground_cell.specs.declared.world.World.{World}
 use Rattle.ground_cell.specs.declared.world.Frame.{Frame}
 use Rattle.ground_cell.specs.declared.world.Top.{Top}

@@ -9,7 +9,7 @@ use Rattle.std.proofs.Math.ListN.{get_or}
 use Rattle.basics.specs.Paths.{ap₃}
 use Rattle.ground_cell.specs.World.{Tall, height_at, top_at, top_with, cell_with, cell_under, base_cell, local_y}
 use Rattle.ground_cell.specs.Base.{TopsNoted, column_height, column_biome, base_numbered}
-use Rattle.ground_cell.specs.Laws.{height_least, height_most, cell_told}
+use Rattle.ground_cell.proofs.Laws.{height_least, height_most, cell_told}
 use Rattle.ground_cell.specs.declared.world.World.{World}
 use Rattle.ground_cell.specs.declared.world.Frame.{Frame}
 use Rattle.ground_cell.specs.declared.world.Top.{Top}

@@ -13,7 +13,7 @@ use Rattle.grid.specs.Grid.{tab_at}
 use Rattle.ground_cell.specs.Blocks.{AIR, WATER}
 use Rattle.ground_cell.specs.World.{Tall, base_cell}
 use Rattle.ground_cell.specs.Base.{base_numbered, base_cells, column_height, column_biome}
-use Rattle.ground_cell.specs.Laws.{base_length, base_above, height_most}
+use Rattle.ground_cell.proofs.Laws.{base_length, base_above, height_most}
 use Rattle.ground.specs.Ground.{world_of, frame_of, ground, generate_refusal, generate_does}
 use Rattle.ground_sizes.specs.AsMade.{LentNumbers, LentFloats, ReadNumbers, ReadFloats, NotedTops, LaidRows, Generates}
 use Rattle.ground_sizes.specs.Statement.{Lies, RowCovered}

@@ -1,4 +1,3 @@
 pub mod Grown
-pub mod Stands
 pub mod Far
 pub mod Slabs

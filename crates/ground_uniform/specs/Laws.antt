@@ -10,7 +10,7 @@ use Rattle.column.specs.declared.Biome.TheVariants.{Desert, Mountain, Forest, Pl
 use Rattle.ground_cell.specs.Blocks.{desert_block, mountain_block, forest_block, plains_block, select_block}
 use Rattle.ground_cell.specs.World.{Tall, Near, height_at, biome_numbered, top_at, ground_cell, column_cell, cell_with, cell_under, base_cell, local_y}
 use Rattle.ground_cell.specs.Base.{base_numbered, base_cells, column_height}
-use Rattle.ground_cell.specs.Laws.{height_least, height_most, column_most, base_above}
+use Rattle.ground_cell.proofs.Laws.{height_least, height_most, column_most, base_above}
 use Rattle.ground_cell.specs.declared.world.World.{World}
 use Rattle.ground_cell.specs.declared.world.Frame.{Frame}
 use Rattle.ground_trees.specs.Features.{boulders_of, trees_of, top_of}

@@ -6,7 +6,7 @@ use Rattle.std.specs.Int.Signed.{lt_z}
 use Rattle.grid.specs.Cube.{tab, steps}
 use Rattle.ground_cell.specs.World.{Tall, base_cell}
 use Rattle.ground_cell.specs.Base.{base_numbered, base_cells}
-use Rattle.ground_cell.specs.Laws.{height_most, base_above}
+use Rattle.ground_cell.proofs.Laws.{height_most, base_above}
 use Rattle.ground_cell.specs.declared.world.World.{World}
 use Rattle.ground_cell.specs.declared.world.Top.{Top}
 use Rattle.ground_trees.specs.Features.{inset_in, boulder_column, boulder_step, boulders_of, tree_column, tree_step, trees_of, top_of}

@@ -8,10 +8,11 @@ use Rattle.basics.specs.Words.{back}
 use Rattle.grid_slabs.specs.Rows.{over_rows, rows_same}
 use Rattle.grid_slabs.specs.Clip.{Clip}
 use Rattle.ground_cell.specs.World.{top_with}
-use Rattle.ground_cell.specs.Laws.{column_least}
+use Rattle.ground_cell.proofs.Laws.{column_least}
 use Rattle.ground_trees.specs.Features.{boulder_step, top_in, top_of}
 use Rattle.ground_trees.specs.Slabs.{tree_step_in}
-use Rattle.ground_slabs.specs.Slabs.{near_from, near_to, slab_laid, slab_ground, rows_clip, near_most, near_least}
+use Rattle.ground_slabs.specs.Slabs.{near_from, near_to, slab_laid}
+use Rattle.ground_slabs.proofs.Slabs.{slab_ground, rows_clip, near_most, near_least}
 use Rattle.ground_chunk.specs.Laid.{ground_in, boulder_steps, tree_steps}
 use Rattle.ground_chunk.proofs.lay_slabs.Goals as goal
 

@@ -1,6 +1,6 @@
 use borrow.Author.Rules.{rules}
 use mathlib.Core.Path.{◌≡◌, refl, sym, ap, ◌∙◌, subst}
-use Prim.Native.Nat.{ℕ, ◌+◌, ◌-◌, ◌≤◌, ◌<◌}
+use Prim.Native.Nat.{ℕ, ◌+◌, ◌≤◌, ◌<◌}
 use native.Mathlib.Omega.{arith}
 use mathlib.Core.List.{List}
 use lib.IntN.{ℤ, pos}
@@ -12,10 +12,9 @@ use Rattle.grid.specs.Cube.{steps}
 use Rattle.grid.specs.Grid.{steps_more, steps_none}
 use Rattle.ground_cell.specs.World.{local_y}
 use Rattle.basics.specs.Words.{again, back}
-use Rattle.ground_crown.specs.Radii.{radius_is}
 use Rattle.ground_crown.specs.Slabs.{layer_in, canopy_step_in, canopy_in}
 use Rattle.ground_crown.proofs.Counts.{layer_level}
-use Rattle.ground_crown.proofs.Radii.{few, radius_most}
+use Rattle.ground_crown.proofs.Radii.{few, radius_most, radius_is}
 use Rattle.ground_crown.proofs.canopy.Goals.{After-layer, After-leaf_radius-q, After-local_y-y}
 use Rattle.ground_crown.proofs.canopy.Goals as goal
 

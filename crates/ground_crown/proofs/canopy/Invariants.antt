@@ -3,8 +3,6 @@ use mathlib.Core.Path.{◌≡◌}
 use Prim.Native.Nat.{◌+◌, ◌-◌, ◌≤◌}
 use lib.IntN.{pos}
 use lib.ListN.{length}
-use mir.Syntax.{w32}
-use mir.Val.{to_z}
 use Rattle.grid.specs.Cube.{steps}
 use Rattle.ground_crown.specs.Slabs.{canopy_step_in}
 use Rattle.ground_crown.proofs.canopy.Given as goal

@@ -13,11 +13,12 @@ use Rattle.grid.specs.Count.{non_air_count}
 use Rattle.grid.specs.Grid.{digits, index_lt, tab_at, fill_at}
 use Rattle.ground_cell.specs.World.{height_at, biome_at, biome_number, base_cell}
 use Rattle.ground_cell.specs.Base.{base_numbered, base_cells, column_height, column_biome}
-use Rattle.ground_cell.specs.Laws.{base_at}
+use Rattle.ground_cell.proofs.Laws.{base_at}
 use Rattle.ground_cell.specs.declared.world.World.{World}
 use Rattle.ground_cell.specs.declared.world.Frame.{Frame}
 use Rattle.ground.specs.Ground.{world_with, world_of, frame_of, ground, generate_refusal, generate_does}
-use Rattle.ground_sizes.specs.Over.{Over, ground_over}
+use Rattle.ground_sizes.specs.Over.{Over}
+use Rattle.ground_sizes.proofs.Over.{ground_over}
 use Rattle.ground_sizes.specs.AsMade.{NotedTops, LaidRows, Generates}
 use Rattle.ground_sizes.specs.Statement.{SizeOnly, Lies, cell_of, column_of, RowCovered, SameCell, OneGround, OneGroundTheorem}
 

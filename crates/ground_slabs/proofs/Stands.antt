@@ -20,7 +20,7 @@ use Rattle.ground_cell.specs.Blocks.{STONE, LOG, select_block, forest_block, pla
 use Rattle.ground_cell.specs.World.{Tall, Near, height_at, biome_at, biome_number, biome_numbered, top_at}
 use Rattle.ground_cell.specs.World.{ground_cell, column_cell, cell_with, cell_under, base_cell, local_y}
 use Rattle.ground_cell.specs.Base.{column_height, column_biome, base_cells}
-use Rattle.ground_cell.specs.Laws.{base_at, height_least, level_back}
+use Rattle.ground_cell.proofs.Laws.{base_at, height_least, level_back}
 use Rattle.ground_cell.specs.declared.world.World.{World}
 use Rattle.ground_cell.specs.declared.world.Frame.{Frame}
 use Rattle.ground_cell.specs.declared.world.Top.{Top}
