@@ -1,0 +1,47 @@
+// Which columns of a chunk's row lie on a ravine: `ravine_here` of `cave_plain`, with the larger noise worked out by rows.
+#![tactic(auto)]
+
+ghost use Rattle.std.specs.Prelude.{◌≡◌, ◌≤◌, ◌<◌, length};
+ghost use Rattle.noise_tables.specs.Row.{Flags};
+ghost use Rattle.noise_tables.specs.Places.{Noted};
+ghost use Rattle.cave_tables.specs.Coords.{cave_coord};
+ghost use Rattle.ground_cell.specs.World.{Near};
+ghost use Rattle.cave_ravines.specs.Cuts.{cut_at, Cuts};
+
+use cave_tables::RAVINE_AT;
+use ground_cell::cave::ravine_with;
+use ground_cell::world::{Frame, along};
+use noise_rows::fbm_row;
+use noise_tables::PLACES;
+use num_core::float::of_i32;
+
+fn cut_row(f: Frame, z: f32, vals: &[f32], cuts: &mut [bool])
+    requires { Near f × (f.size ≤ length vals.now) × (f.size ≤ length cuts.old) }
+    ensures { Flags f.size (cut_at f z vals.now) cuts.new }
+{
+    let n = f.size;
+    let mut i = 0;
+    while i < n {
+        let wx = along(f.ox, i);
+        cuts[i] = ravine_with(vals[i], of_i32(wx), z);
+        i += 1;
+    }
+}
+
+// The tables are those of `cave_tables`.
+pub fn note_cuts(f: Frame, z: usize, floors: &[u32], eases: &[f32], cuts: &mut [bool])
+    requires { Near f
+        × (z < f.size)
+        × Noted f.size 27 (cave_coord f) floors.now eases.now
+        × (length floors.now ≡ 1728)
+        × (length eases.now ≡ 1728)
+        × (f.size ≤ length cuts.old) }
+    ensures { Cuts f z cuts.new }
+{
+    let n = f.size;
+    let wz = along(f.oz, z);
+    let v = of_i32(wz);
+    let mut vals = [0.0f32; PLACES];
+    fbm_row(v * 0.01, 3, RAVINE_AT, n, floors, eases, &mut vals);
+    cut_row(f, v, &vals, cuts);
+}

@@ -1,0 +1,3 @@
+pub mod Layers
+pub mod Fields
+pub mod Laws

@@ -1,0 +1,4 @@
+pub mod Blocks
+pub mod Caves
+pub mod World
+pub mod Base

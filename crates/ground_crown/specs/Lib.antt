@@ -1,0 +1,3 @@
+pub mod Crown
+pub mod Radii
+pub mod Slabs

@@ -1,0 +1,3 @@
+pub mod Lines
+pub mod Range
+pub mod Laws

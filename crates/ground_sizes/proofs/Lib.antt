@@ -1,0 +1,2 @@
+pub mod Over
+pub mod Theorem

@@ -1,0 +1,4 @@
+pub mod Over
+pub mod AsMade
+pub mod Statement
+pub mod Witness

@@ -1,0 +1,1 @@
+// Chunks of two sizes over one world: definitions and laws only.

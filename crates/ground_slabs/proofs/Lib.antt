@@ -1,0 +1,4 @@
+pub mod Far
+pub mod Grown
+pub mod Slabs
+pub mod Stands

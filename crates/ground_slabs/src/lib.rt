@@ -1,0 +1,2 @@
+// Laws only: some slabs of the ground laid without the others.
+#![tactic(auto)]

@@ -1,0 +1,4 @@
+pub mod Signs
+pub mod Features
+pub mod Kept
+pub mod Slabs

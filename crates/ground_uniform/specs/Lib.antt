@@ -1,0 +1,5 @@
+pub mod Place
+pub mod Reach
+pub mod Untouched
+pub mod Laws
+pub mod Counts

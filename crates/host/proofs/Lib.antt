@@ -1,0 +1,3 @@
+mod Thin
+mod Forms
+mod ThinSlice

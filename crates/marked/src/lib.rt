@@ -1,0 +1,1 @@
+// The marked examples of SCOPE 12: definitions and laws only, in specs/.

@@ -1,0 +1,2 @@
+pub mod Sky
+pub mod Listing

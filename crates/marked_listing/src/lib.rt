@@ -1,0 +1,1 @@
+// SCOPE 12 k, the listing, as a theorem (specs/); no functions.

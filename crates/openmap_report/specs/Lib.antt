@@ -1,0 +1,4 @@
+pub mod Text
+pub mod Fits
+pub mod Report
+pub mod Laws

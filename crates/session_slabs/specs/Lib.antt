@@ -1,0 +1,3 @@
+pub mod Slabs
+pub mod Notes
+pub mod Entries

@@ -1,0 +1,7 @@
+pub mod AsMade
+pub mod Demand
+pub mod Theorem
+pub mod Undos
+pub mod Witness
+pub mod IdleLine
+pub mod Accepted
