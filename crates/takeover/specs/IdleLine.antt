@@ -1,22 +1,14 @@
 -- What 9.8 asks of older lines is needed: for all settings and places within the limits there is an older journal (6.14) with one line behind G, an idle
 -- edit; it opens, and an undo then is accepted and alters no cell. Assumes nothing.
 use Rattle.std.specs.Prelude.{◌≡◌, [], ◌∷◌, ℕ}
-use Rattle.std.proofs.Common.{◌∙◌, ap}
-use Rattle.config.specs.declared.TerrainConfig.{TerrainConfig}
-use Rattle.config.specs.declared.ChunkPos.{ChunkPos}
-use Rattle.config.specs.Limits.{config_header, limit_refusal}
-use Rattle.ground.specs.Ground.{ground}
-use Rattle.session_calls.specs.Calls.{accepted, Resumed}
+use Rattle.session_calls.specs.Calls.{accepted}
 use Rattle.session_calls.specs.declared.Session.{Session}
 use Rattle.session_calls.specs.declared.Reopened.TheVariants.{Opened}
 use Rattle.takeover_model.specs.Model.{undo}
 use Rattle.takeover_model.specs.Statement.{tablet}
 use Rattle.takeover_model.specs.Run.{replies}
-use Rattle.takeover_model.specs.Older.{older_model, flat, flat_journal, flat_opens, flat_undone}
-use Rattle.takeover_model.specs.Takeover.{same_replies}
 use Rattle.takeover.specs.AsMade.{Second, resumes}
-use Rattle.takeover.specs.Theorem.{ran}
-use Rattle.takeover.specs.Witness.{Makes, makes, second}
+use Rattle.takeover.specs.Witness.{Makes}
 
 -- a tablet that reopened a journal, and an undo on it, as both were made: the undo is accepted, and no cell is altered
 pub record IdleUndone : Type 1 where
@@ -27,22 +19,3 @@ pub record IdleUndone : Type 1 where
   pub answer : reopened.answer ≡ Opened session lines trailing
   pub made : Makes (resumes reopened session) (undo ∷ [])
   pub told : made.replies ≡ accepted 0 0 0 ∷ []
-
-pub idle_undone : (config : TerrainConfig) (place : ChunkPos) → limit_refusal (config_header config place) ≡ 0 → IdleUndone
-idle_undone config place limits =
-    let o = flat_opens config place limits in
-    let t : Second = second (ground config place) (flat_journal config place limits) 32768 in
-    record {
-      reopened = t;
-      session = o.session;
-      lines = o.lines;
-      trailing = o.trailing;
-      answer = ap (λ (r : Resumed). r.answer) o.answer;
-      made = makes (resumes t o.session) (undo ∷ []);
-      told =
-          (ran (makes (resumes t o.session) (undo ∷ [])).made).answers
-          ∙ ap (λ (r : Resumed). replies (tablet o.session r.cells (flat_journal config place limits)) (undo ∷ [])) o.answer
-          ∙ same_replies (older_model config place 32768 (flat ∷ [])) (tablet o.session o.cells (flat_journal config place limits)) o.good o.holds
-          (undo ∷ [])
-          ∙ flat_undone config place limits;
-    }

@@ -1,6 +1,5 @@
 pub mod AsMade
 pub mod Demand
-pub mod Theorem
 pub mod Undos
 pub mod Witness
 pub mod IdleLine

@@ -1,6 +1,6 @@
 -- The theorem (SCOPE 9.5) speaks of something: every list of calls can be made from every tablet, by the calls' own contracts; a fresh session that
 -- is accepted is a first tablet, and every journal can be reopened by a second. Assumes nothing.
-use Rattle.std.specs.Prelude.{◌≡◌, refl, List, [], ◌∷◌, ℕ}
+use Rattle.std.specs.Prelude.{◌≡◌, refl, List, [], ℕ}
 use Rattle.std.proofs.Common.{sym, ap}
 use contract.Lifetimes.{Lfts}
 use Rattle.config.specs.declared.TerrainConfig.{TerrainConfig}
@@ -11,26 +11,24 @@ use Rattle.session_calls.specs.declared.Reply.{Reply}
 use Rattle.session_calls.specs.declared.Session.{Session}
 use Rattle.session_calls.specs.Calls.{Outcome, begun, session_fresh_does, session_reopen_does}
 use Rattle.takeover_model.specs.Model.{Call}
-use Rattle.takeover_model.specs.Model as M
-use Rattle.takeover_model.specs.Statement.{Tablet, leaves, does}
+use Rattle.takeover_model.specs.Statement.{Tablet}
 use Rattle.takeover.specs.AsMade.{Lent, Shown, Turn, Note, Made, First, Second}
-use Rattle.takeover.specs.AsMade as C
 
 -- a slice somewhere that holds these numbers, to be written, and to be read
-abbrev holding : List ℕ → Lent
+abbrev pub holding : List ℕ → Lent
 holding ns = record { ref_ptr = (0, 0); ghost_name = 0; now = ns }
 
-abbrev showing : List ℕ → Shown
+abbrev pub showing : List ℕ → Shown
 showing ns = record { ref_ptr = (0, 0); now = ns }
 
-abbrev two : Lfts 2
+abbrev pub two : Lfts 2
 two = ([], ([], tt))
 
-abbrev three : Lfts 3
+abbrev pub three : Lfts 3
 three = ([], ([], ([], tt)))
 
 -- a call on a tablet with this outcome
-abbrev turn : Tablet → Outcome → Turn
+abbrev pub turn : Tablet → Outcome → Turn
 turn t o = record {
   session = t.session;
   cells = holding t.cells;
@@ -41,7 +39,7 @@ turn t o = record {
 }
 
 -- .. one that is lent no cells
-abbrev note : Tablet → Outcome → Note
+abbrev pub note : Tablet → Outcome → Note
 note t o = record {
   session = t.session;
   journal = holding t.journal;
@@ -54,39 +52,6 @@ pub record Makes (t : Tablet) (ks : List Call) : Type 1 where
   pub replies : List Reply
   pub last : Tablet
   pub made : Made t ks replies last
-
-more : {t : Tablet} {k : Call} {ks : List Call} (o : Outcome) (rest : Makes (leaves o) ks)
-    → Made t (k ∷ ks) (o.reply ∷ rest.replies) rest.last → Makes t (k ∷ ks)
-more o rest m = record { replies = o.reply ∷ rest.replies; last = rest.last; made = m }
-
--- every list of calls has them
-pub makes : (t : Tablet) (ks : List Call) → Makes t ks
-unfolding does
-makes t [] = record { replies = []; last = t; made = C.none }
-makes t (M.set x y z id h ∷ ks) =
-    let o = does t (M.set x y z id h) in
-    let rest = makes (leaves o) ks in
-    more o rest (C.set two (turn t o) x y z id h refl rest.made)
-makes t (M.column x z height id h ∷ ks) =
-    let o = does t (M.column x z height id h) in
-    let rest = makes (leaves o) ks in
-    more o rest (C.column two (turn t o) x z height id h refl rest.made)
-makes t (M.batch ns ∷ ks) =
-    let o = does t (M.batch ns) in
-    let rest = makes (leaves o) ks in
-    more o rest (C.batch three (turn t o) (showing ns) refl rest.made)
-makes t (M.undo ∷ ks) =
-    let o = does t M.undo in
-    let rest = makes (leaves o) ks in
-    more o rest (C.undo two (turn t o) refl rest.made)
-makes t (M.checkpoint n ∷ ks) =
-    let o = does t (M.checkpoint n) in
-    let rest = makes (leaves o) ks in
-    more o rest (C.checkpoint two (note t o) (showing n) t.cells refl rest.made)
-makes t (M.restore n ∷ ks) =
-    let o = does t (M.restore n) in
-    let rest = makes (leaves o) ks in
-    more o rest (C.restore three (turn t o) (showing n) refl rest.made)
 
 -- a fresh session that is accepted is a first tablet
 abbrev pub first : (config : TerrainConfig) (place : ChunkPos) (c j : List ℕ) (s : Session) → (session_fresh_does config place c j).answer ≡ Started s → First

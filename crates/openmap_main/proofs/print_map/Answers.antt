@@ -1,7 +1,7 @@
 -- `openmap_main::print_map` is safe and ends. The text lies within its buffer.
 use Rattle.std.proofs.Common.{sym, length}
 use lib.Seq.{length-take-le}
-use Rattle.openmap_report.specs.Laws.{text_within}
+use Rattle.openmap_report.proofs.Laws.{text_within}
 use Rattle.openmap_main.proofs.print_map.Goals as goal
 
 pub slice_bounds-text-end : goal.slice_bounds-text-end

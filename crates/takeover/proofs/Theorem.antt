@@ -18,8 +18,10 @@ use Rattle.takeover_model.specs.Model as M
 use Rattle.takeover_model.specs.Statement.{Tablet, tablet, used_bytes, does, leaves, Alike, AsModel, Laid, CutAt}
 use Rattle.takeover_model.specs.Run.{run, replies}
 use Rattle.takeover_model.specs.Steps.{Holds}
-use Rattle.takeover_model.specs.Open.{Fresher, fresh_holds, reopens_none}
-use Rattle.takeover_model.specs.Takeover.{Taken, taken, first_cut, Along, along, as_model, laid_on, same_replies}
+use Rattle.takeover_model.specs.Open.{Fresher}
+use Rattle.takeover_model.proofs.Open.{fresh_holds, reopens_none}
+use Rattle.takeover_model.specs.Takeover.{Taken, Along}
+use Rattle.takeover_model.proofs.Takeover.{taken, first_cut, along, as_model, laid_on, same_replies}
 use Rattle.takeover.specs.AsMade.{noted, Made, none, set, column, batch, undo, checkpoint, restore, form, after, gave, First, began, Second, resumes}
 use Rattle.takeover.specs.Demand.{model, first_line, TakenOver, TakeoverTheorem}
 

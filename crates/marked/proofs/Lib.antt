@@ -1,0 +1,2 @@
+pub mod Ground
+pub mod Marked

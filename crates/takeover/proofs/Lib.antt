@@ -1,0 +1,5 @@
+pub mod Theorem
+pub mod Undos
+pub mod IdleLine
+pub mod Accepted
+pub mod Witness
