@@ -4,13 +4,12 @@ use Rattle.num_core.specs.Num.{nearest}
 use Rattle.column.specs.Floats.{nat}
 use Rattle.column.specs.declared.Biome.{Biome}
 use Rattle.column.specs.declared.Biome.TheVariants.{Desert, Mountain, Plains}
-use Rattle.config.specs.Refusals.{refusal}
 use Rattle.config.specs.Limits.{header, limit_refusal}
 use Rattle.ground_cell.specs.Blocks.{STONE, GRASS, SAND, SNOW, GRAVEL, select_block}
 use Rattle.ground_cell.specs.World.{height_at}
 use Rattle.ground_trees.specs.Features.{radii, crown_of, boulder_blocks}
 use Rattle.ground.specs.Ground.{world_of}
-use Rattle.marked.specs.Example.{Example, number, numbers, everywhere, ◌and◌}
+use Rattle.marked.specs.Example.{Example, number, numbers, everywhere}
 
 -- a desert's block at a depth; the topmost block of a column of a height, with the sea at 24
 abbrev desert_at : ℕ → ℕ

@@ -8,7 +8,7 @@ use Rattle.num_core.specs.Num.{nearest, floor₃₂, to_i32}
 use Rattle.noise.specs.Hash.{unit31}
 use Rattle.marked_listing.specs.Listing.{listing_text, listing_printed}
 use Rattle.marked.specs.Ground.{rows_d, rows_e, rows_f, rows_g, rows_h, rows_i, rows_j}
-use Rattle.marked.specs.Example.{Example, float, integer, printed, ◌and◌, both}
+use Rattle.marked.specs.Example.{Example, float, integer, printed}
 
 -- a: zero, a tie, the last that rounds below 1, the first that rounds to 1
 abbrev pub rows_a : List Example

@@ -1,1 +1,1 @@
-// The marked examples of SCOPE 12: definitions and laws only, in specs/.
+// The marked examples of SCOPE 12: definitions (specs/) and laws (proofs/) only.

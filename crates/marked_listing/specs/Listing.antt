@@ -1,6 +1,5 @@
 -- SCOPE 12 k, as what `report` does. Its proof works out the journal, and takes the ground from the range of heights. Assumes nothing.
 use Rattle.std.specs.Prelude.{List, [], ◌∷◌, ℕ, take}
-use Rattle.openmap_lines.specs.Text.{each}
 use Rattle.openmap_report.specs.Report.{report_does}
 
 -- the journal, with | for tab and an LF behind each but the last: `G|0|4096|256|2|0|128|0`; `S|0|0|0|0`; `C|1|0|2|8`; `U`; `S|1`

@@ -1,1 +1,1 @@
-// SCOPE 12 k, the listing, as a theorem (specs/); no functions.
+// SCOPE 12 k, the listing, as a theorem (proofs/); no functions.

@@ -66,7 +66,7 @@ module _ (f : First) {calls : List Call} {rs : List Reply} {t : Tablet} (made : 
     -- its cells are the ground with its active edits laid on in order
     pub laid : (n : ℕ) → Laid (after n made)
     -- every answer is the model's, whole: refused exactly where the model refuses, with the same number; else with the same groups written, the same
-    -- id that was there before, and as many cells altered (SCOPE 7.8). The model tells these of its own cells (`takeover_model/specs/Told`).
+    -- id that was there before, and as many cells altered (SCOPE 7.8). The model tells these of its own cells (`takeover_model/proofs/Told`).
     pub answers : rs ≡ model_replies (model f) calls
     -- every cut: whatever byte it comes at, whatever is confirmed, whatever the second's buffers had in them
     pub cut : (confirmed q : ℕ) (tail : List ℕ) (o : Second) → CutAt t confirmed q tail o.cells.now o.journal.now o.held
