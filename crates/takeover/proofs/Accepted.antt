@@ -1,7 +1,7 @@
 -- SCOPE 9.6: for every accepted journal, the calls that its lines say, given to the reference model with a lent length of at least the committed
 -- prefix, are refused nowhere and leave exactly those bytes, the active edits and the checkpoints: with the older writer, and where no line is an idle
 -- edit with the present one. Assumes nothing.
-use Rattle.std.specs.Prelude.{◌≡◌, true, nat_abs, ltb}
+use Rattle.std.specs.Prelude.{◌≡◌, true, ltb}
 use Rattle.std.proofs.Math.Path.{refl, sym, ap}
 use Rattle.std.proofs.Common.{◌∙◌, subst, arith, lt-ltb, le-leb, ltb-false}
 use mathlib.Core.List.{List, [], ◌∷◌, ◌++◌, append_assoc, append-nil, map}
@@ -12,13 +12,12 @@ use Rattle.std.proofs.Math.Seq.{length-take-le}
 use Rattle.basics.specs.Bools.{by_bool}
 use Rattle.config.specs.declared.TerrainConfig.{TerrainConfig}
 use Rattle.config.specs.declared.ChunkPos.{ChunkPos}
-use Rattle.config.specs.declared.Header.{Header}
-use Rattle.config.specs.Limits.{config_header, limit_refusal}
+use Rattle.config.specs.Limits.{config_header}
 use Rattle.grid.specs.Grid.{in_all}
 use Rattle.grid_edits.specs.Edits.{Group}
 use Rattle.ground.specs.Ground.{ground}
 use Rattle.journal_format.specs.Names.{name_ok}
-use Rattle.journal_format.specs.Line.{Edit, set, column, batch, header_text, edit_text, undo_text, checkpoint_text, restore_text, ended, header_of, line_of}
+use Rattle.journal_format.specs.Line.{Edit, set, column, batch, header_text, edit_text, undo_text, checkpoint_text, restore_text, ended, line_of}
 use Rattle.journal_format.specs.Line.{Line, edits, undoes, checkpoints, restores, wrong}
 use Rattle.journal_format.specs.Journal.{lines, committed, Active, active, none_active, joins, drop_last, after_line, read, follow}
 use Rattle.journal_format.proofs.Checkpoints.{restore_remembered}
@@ -30,24 +29,16 @@ use Rattle.journal_format.proofs.Batches.{batch_args_lem, batch_given}
 use Rattle.journal_format.specs.Writer.{said_text, LineOk, AllLineOk, on_some, after_all}
 use Rattle.journal_format.proofs.Writer.{follow_said}
 use Rattle.session_calls.specs.Asked.{Asked, asks, clip, set_asks, column_asks, batch_line, batch_asks}
-use Rattle.session_calls.specs.Calls.{resumed, config_of, pos_of, session_reopen_does}
-use Rattle.session_calls.specs.FirstLine.{text_back}
-use Rattle.session_calls.specs.declared.Session.{Session}
-use Rattle.session_calls.specs.declared.Reopened.{Reopened}
-use Rattle.session_calls.specs.declared.Reopened.TheVariants.{Opened}
 use Rattle.takeover_model.specs.Model.{Call, Model, model_size, cells_with, model_cells, model_fresh, left, asked_by, Writer, older_edit}
 use Rattle.takeover_model.specs.Model.{model_edit, model_relay, model_undo, model_restore, saved_as, room_for_names, model_checkpoint, step_by}
 use Rattle.takeover_model.specs.Model.{run_by, replies_by}
-use Rattle.takeover_model.specs.Model as M
 use Rattle.takeover_model.proofs.Asks.{set_same, column_same, batch_same}
-use Rattle.takeover_model.specs.Statement.{later_lines}
 use Rattle.takeover_model.proofs.Steps.{saved_same}
 use Rattle.takeover_model.specs.Cut.{Same}
 use Rattle.takeover_model.proofs.Cut.{same_trans}
-use Rattle.takeover_model.proofs.Opened.{opened_start}
 use Rattle.takeover_model.specs.Alters.{Alters, LineAlters, ThenOn, EachLine, LaterAlter}
 use Rattle.takeover_model.proofs.Alters.{older_same}
-use Rattle.takeover.specs.Accepted.{call_of, calls_of, AllAccepted, Gives, Accepted, WrittenByBoth, AsWritten}
+use Rattle.takeover.specs.Accepted.{call_of, calls_of, AllAccepted, Gives, Accepted, WrittenByBoth}
 
 -- ---- it asks for that line
 
@@ -249,7 +240,7 @@ module _ (config : TerrainConfig) (place : ChunkPos) (s : List ℕ) (ls : List (
       d.gives n in
       record { said = ds; good = d.good; accepted = r.accepted; bytes = r.bytes ∙ sym t; active = r.active }
 
-  by_both : WrittenByBoth s config place b borrowed
+  pub by_both : WrittenByBoth s config place b borrowed
   unfolding model_fresh
   by_both = record {
     older = written_by_lem older_edit (λ (a : Active) (d : Line). Unit) (λ n e same ok. refl) (each_older none_active (map (line_of config.chunk_size) ls));
@@ -257,24 +248,3 @@ module _ (config : TerrainConfig) (place : ChunkPos) (s : List ℕ) (ls : List (
         written_by_lem model_edit (LineAlters config.chunk_size (ground config place)) (present_as_older new)
         (subst (LaterAlter config.chunk_size (ground config place)) whole p);
   }
-
--- SCOPE 9.6, of every text: a first line h within the limits, and lines behind it that leave b, active edits and checkpoints
-pub accepted_is_written : (s g : List ℕ) (ls : List (List ℕ)) (h : Header) (b : Active) (borrowed : ℕ)
-    → lines s ≡ g ∷ ls → header_of g ≡ some h → limit_refusal h ≡ 0 → follow (nat_abs h.chunk_size) 2 none_active ls ≡ read b → committed s ≤ borrowed
-    → WrittenByBoth s (config_of h) (pos_of h) b borrowed
-accepted_is_written s g ls h b borrowed e f l q c =
-    by_both (config_of h) (pos_of h) s ls b (e ∙ ap (λ (x : List ℕ). x ∷ ls) (text_back g h f l)) q borrowed c
-
-pub reopened_is_written : (c j : List ℕ) (held many trailing borrowed : ℕ) (r : Session) → (session_reopen_does c j held).answer ≡ Opened r many trailing
-    → committed (take held j) ≤ borrowed → AsWritten (take held j) r borrowed
-reopened_is_written c j held many trailing borrowed r a fits =
-    let d : List ℕ = (session_reopen_does c j held).cells in
-    let o = opened_start c j held many trailing r d (ap (λ (x : Reopened). resumed x d) a) in
-    let m : Model = o.model in
-    subst (λ (x : Session). AsWritten (take held j) x borrowed) (sym o.holds.session)
-    (record {
-      active_edits = m.active;
-      edits = ap (later_lines (model_size m)) o.whole ∙ o.good.reads;
-      limits = o.good.limits;
-      written = by_both m.config m.place (take held j) o.good.ls m.active o.whole o.good.reads borrowed fits;
-    })

@@ -3,16 +3,15 @@
 -- edit with the present one. Assumes nothing.
 use Rattle.std.specs.Prelude.{◌≡◌}
 use mathlib.Core.List.{List, [], ◌∷◌, ◌++◌}
-use Rattle.std.proofs.Math.Option.{none}
-use Prim.Native.Nat.{ℕ, ◌+◌}
-use Rattle.std.proofs.Math.ListN.{length, take}
+use Prim.Native.Nat.{ℕ}
+use Rattle.std.proofs.Math.ListN.{take}
 use Rattle.config.specs.declared.TerrainConfig.{TerrainConfig}
 use Rattle.config.specs.declared.ChunkPos.{ChunkPos}
 use Rattle.config.specs.Limits.{limit_refusal}
 use Rattle.ground.specs.Ground.{ground}
 use Rattle.journal_format.specs.Line.{set, column, batch, ended}
 use Rattle.journal_format.specs.Line.{Line, edits, undoes, checkpoints, restores, wrong}
-use Rattle.journal_format.specs.Journal.{lines, committed, Active, active, read}
+use Rattle.journal_format.specs.Journal.{lines, committed, Active, read}
 use Rattle.journal_format.specs.Batches.{batch_args}
 use Rattle.journal_format.specs.Writer.{LineOk, AllLineOk}
 use Rattle.session_calls.specs.Record.{size_of, header_of_record}

@@ -5,8 +5,6 @@ use Rattle.session_calls.specs.Calls.{accepted}
 use Rattle.session_calls.specs.declared.Session.{Session}
 use Rattle.session_calls.specs.declared.Reopened.TheVariants.{Opened}
 use Rattle.takeover_model.specs.Model.{undo}
-use Rattle.takeover_model.specs.Statement.{tablet}
-use Rattle.takeover_model.specs.Run.{replies}
 use Rattle.takeover.specs.AsMade.{Second, resumes}
 use Rattle.takeover.specs.Witness.{Makes}
 
