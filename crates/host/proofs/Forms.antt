@@ -10,7 +10,7 @@ use prog.Routine.{Routine}
 use types.Logic.{Logic}
 use contract.Lifetimes.{Lfts}
 use contract.Monad.{Fun, fact}
-use denote.Ref.{Bor}
+use Rattle.std.specs.Borrow.{Bor, MutBor}
 use Rattle.session_calls.specs.Calls.{Outcome, outcome, Recorded, recorded}
 use Rattle.session_calls.specs.Checkpoints.{session_checkpoint_does, beside_cells}
 use Rattle.session_calls.specs.declared.Reply.{Reply}
@@ -26,7 +26,7 @@ use Rattle.host.specs.contracts.by_reference.pl_session_restore as restore_form
 
 -- the record, the cells and the journal as they are lent, and as the call leaves them ('), with its reply
 module _ {M : Type 1} {𝓤 : Ura M} (𝓛 : Logic 𝓤) (mem : Memory → SProp 𝓤) (run : Routine → Fun 𝓤)
-    (session session' : Bor Session) (cells journal cells' journal' : Bor (List ℕ)) (reply : Reply) where
+    (session session' : MutBor Session) (cells journal cells' journal' : MutBor (List ℕ)) (reply : Reply) where
   abbrev given : Tablet
   given = tablet session.now cells.now journal.now
 

@@ -1,3 +1,1 @@
-mod Thin
 mod Forms
-mod ThinSlice

@@ -1,6 +1,8 @@
 // The C boundary: include/perillahinge.h says what each function is for. Each hands its arguments to the library's call and answers in numbers:
 // a refusal's number (SCOPE 10), 0 where the call is accepted, its line, and its values. The session's edits, over a record lent by reference,
 // are in `by_reference`.
+#![tactic(auto)]
+
 ghost use Rattle.std.specs.Prelude.{◌≡◌, length};
 ghost use Rattle.noise.specs.Hash.{hash2₃₂, hash3₃₂};
 ghost use Rattle.noise.specs.Noise.{noise2d₃₂, noise3d₃₂, fbm2d₃₂, fbm3d₃₂};

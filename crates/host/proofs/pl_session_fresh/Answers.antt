@@ -1,0 +1,6 @@
+-- `host::pl_session_fresh` meets its contract. Assumes nothing.
+use Rattle.host_starts.specs.Sessions.{fresh_in_c_lem}
+use Rattle.host.proofs.pl_session_fresh.Goals as goal
+
+pub returns : goal.returns
+returns c = fresh_in_c_lem _ _ _ _ _ c.fresh_start.ensures c.fresh.ensures
