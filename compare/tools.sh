@@ -57,7 +57,7 @@ build_openmap() {
         local log
         command -v rt > /dev/null || missing "no rt: it builds the program, unless OPENMAP names one"
         log=$(log_of openmap) || exit 2
-        (cd "$root" && rt run openmap < /dev/null) > "$log" 2>&1 || failed 'rt run openmap' "$log"
+        (cd "$root/crates/openmap" && rt run < /dev/null) > "$log" 2>&1 || failed 'rt run of openmap' "$log"
         OPENMAP=$root/crates/openmap/out/openmap
     fi
     [ -x "$OPENMAP" ] || missing "no program '$OPENMAP'"
