@@ -142,6 +142,8 @@ def turned_source(text, table):
 
 
 def main():
+    if set(w for w in sys.argv[1:] if w.startswith("-")) - {"--list"}:
+        sys.exit(__doc__)
     words = [w for w in sys.argv[1:] if not w.startswith("--")]
     root = words[0] if words else "."
     global CRATES
