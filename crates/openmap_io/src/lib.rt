@@ -5,6 +5,7 @@
 ghost use Rattle.std.specs.Prelude.{◌≡◌, ◌+◌, ◌<◌, length};
 ghost use Rattle.openmap_io.specs.Steps.{Moved, step_of, reading_of, Reaches, ReadOn, Held};
 
+use std::fmt::Write;
 use std::io::{ErrorKind, Input, Print, Read};
 use std::{fmt, io};
 
@@ -23,11 +24,37 @@ pub enum Failure {
     Stuck,
 }
 
+// The system's words for an error alone: the number that std writes behind them is left out.
+#[derive(Drop)]
+struct Words<'a, W> {
+    to: &'a mut fmt::Formatter<W>,
+    ended: bool,
+}
+
+impl<W: fmt::Write> fmt::Write for Words<'_, W> {
+    fn write_str(&mut self, s: &str) -> fmt::Result {
+        if s == " (os error " {
+            self.ended = true;
+        }
+        if self.ended {
+            return Ok(());
+        }
+        self.to.write_str(s)
+    }
+}
+
 impl fmt::Display for Failure {
     fn fmt<W: fmt::Write>(&self, f: &mut fmt::Formatter<W>) -> fmt::Result {
         match self {
-            Failure::Call(error) => write!(f, "{error}"),
-            Failure::Stuck => write!(f, "no byte was moved"),
+            Failure::Call(error) => {
+                let mut words = Words {
+                    to: f,
+                    ended: false,
+                };
+                write!(words, "{error}")
+            }
+            // the system's words where no call failed
+            Failure::Stuck => write!(f, "Success"),
         }
     }
 }
