@@ -1,4 +1,4 @@
--- SCOPE 12 d to j: what the ground's definitions give at the marked arguments. Assumes nothing.
+-- SCOPE 12 d to j hold: by computation, but for the low world, which goes by the range of heights. Assumes nothing.
 use Rattle.std.specs.Prelude.{◌≡◌, refl, ℤ, pos, nat_abs, ◌-ℤ◌, Float}
 use Rattle.std.proofs.Common.{ap, arith}
 use Rattle.std.specs.Float.Ieee.{mul, div, lt, to_signed}

@@ -1,5 +1,4 @@
--- SCOPE 12: the one table of the marked examples, and the one statement that each of them holds. A letter's rows stand together.
--- negsuc n is -(n + 1), and nearest n d the f32 nearest to n / d. Assumes nothing.
+-- SCOPE 12: each of the marked examples holds, by computation but for the listing and the low world. Assumes nothing.
 use Rattle.std.specs.Prelude.{refl}
 use Rattle.std.specs.Float.Ieee.{of_int, div, neg, to_signed}
 use Rattle.num_core.specs.Wrap.{mod_z, wrap_w, mul_w}

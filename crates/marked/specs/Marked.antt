@@ -1,4 +1,4 @@
--- SCOPE 12: the one table of the marked examples, and the one statement that each of them holds. A letter's rows stand together.
+-- SCOPE 12: the one table of the marked examples; that each of them holds is one statement, `proofs/Marked.marked`. A letter's rows stand together.
 -- negsuc n is -(n + 1), and nearest n d the f32 nearest to n / d. Assumes nothing.
 use Rattle.std.specs.Prelude.{List, [], ◌∷◌, ◌++◌, ◌-◌, ◌^◌, pos, negsuc}
 use Rattle.std.specs.Float.{nan}

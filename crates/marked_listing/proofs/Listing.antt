@@ -1,4 +1,4 @@
--- SCOPE 12 k, as what `report` does. Its proof works out the journal, and takes the ground from the range of heights. Assumes nothing.
+-- SCOPE 12 k, as what `report` does: the journal is worked out, and the ground comes from the range of heights. Assumes nothing.
 use Rattle.std.specs.Prelude.{◌≡◌, refl, List, [], ◌∷◌, ℕ, suc, ◌≤◌, pos, length, take, drop}
 use Rattle.std.proofs.Common.{◌∙◌, ap, arith, length-take-le}
 use Rattle.text.specs.Decimal.{decimal, decimal_f}

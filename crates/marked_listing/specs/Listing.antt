@@ -1,4 +1,4 @@
--- SCOPE 12 k, as what `report` does. Its proof works out the journal, and takes the ground from the range of heights. Assumes nothing.
+-- SCOPE 12 k, as what `report` does: the journal and the text. That the one gives the other is `proofs/Listing.listing_printed_lem`. Assumes nothing.
 use Rattle.std.specs.Prelude.{List, [], ◌∷◌, ℕ, take}
 use Rattle.openmap_report.specs.Report.{report_does}
 

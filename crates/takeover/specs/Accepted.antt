@@ -9,17 +9,14 @@ use Rattle.config.specs.declared.TerrainConfig.{TerrainConfig}
 use Rattle.config.specs.declared.ChunkPos.{ChunkPos}
 use Rattle.config.specs.Limits.{limit_refusal}
 use Rattle.ground.specs.Ground.{ground}
-use Rattle.journal_format.specs.Line.{set, column, batch, ended}
-use Rattle.journal_format.specs.Line.{Line, edits, undoes, checkpoints, restores, wrong}
+use Rattle.journal_format.specs.Line.{set, column, batch, ended, Line, edits, undoes, checkpoints, restores, wrong}
 use Rattle.journal_format.specs.Journal.{lines, committed, Active, read}
 use Rattle.journal_format.specs.Batches.{batch_args}
 use Rattle.journal_format.specs.Writer.{LineOk, AllLineOk}
 use Rattle.session_calls.specs.Record.{size_of, header_of_record}
 use Rattle.session_calls.specs.declared.Session.{Session}
 use Rattle.session_calls.specs.declared.Reply.{Reply}
-use Rattle.takeover_model.specs.Model.{Call, Model, Ran, model_fresh, Writer, older_edit}
-use Rattle.takeover_model.specs.Model.{model_edit}
-use Rattle.takeover_model.specs.Model.{run_by, replies_by}
+use Rattle.takeover_model.specs.Model.{Call, Model, Ran, model_fresh, Writer, older_edit, model_edit, run_by, replies_by}
 use Rattle.takeover_model.specs.Model as M
 use Rattle.takeover_model.specs.Statement.{later_lines}
 use Rattle.takeover_model.specs.Cut.{Same}
