@@ -8,23 +8,19 @@ ghost use Rattle.cave_tables.specs.Coords.{cave_coord};
 ghost use Rattle.ground_cell.specs.World.{Near};
 ghost use Rattle.cave_ravines.specs.Cuts.{cut_at, Cuts};
 
-use cave_tables::RAVINE_AT;
+use cave_tables::{RAVINE_AT, place_at};
 use ground_cell::cave::ravine_with;
-use ground_cell::world::{Frame, along};
+use ground_cell::world::Frame;
 use noise_rows::fbm_row;
 use noise_tables::PLACES;
-use num_core::float::of_i32;
 
 fn cut_row(f: Frame, z: f32, vals: &[f32], cuts: &mut [bool])
     requires { Near f × (f.size ≤ length vals.now) × (f.size ≤ length cuts.old) }
     ensures { Flags f.size (cut_at f z vals.now) cuts.new }
 {
-    let n = f.size;
-    let mut i = 0;
-    while i < n {
-        let wx = along(f.ox, i);
-        cuts[i] = ravine_with(vals[i], of_i32(wx), z);
-        i += 1;
+    for (i, cut) in cuts[..f.size].iter_mut().enumerate() {
+        let x = place_at(f.ox, i);
+        *cut = ravine_with(vals[i], x, z);
     }
 }
 
@@ -39,8 +35,7 @@ pub fn note_cuts(f: Frame, z: usize, floors: &[u32], eases: &[f32], cuts: &mut [
     ensures { Cuts f z cuts.new }
 {
     let n = f.size;
-    let wz = along(f.oz, z);
-    let v = of_i32(wz);
+    let v = place_at(f.oz, z);
     let mut vals = [0.0f32; PLACES];
     fbm_row(v * 0.01, 3, RAVINE_AT, n, floors, eases, &mut vals);
     cut_row(f, v, &vals, cuts);

@@ -17,7 +17,8 @@ use Rattle.cave_rows.specs.Fields.{sum2_of, sum3_of, judged_at, Hollow}
 use Rattle.cave_rows.specs.Laws.{hollow_is}
 
 pub flags_told : (f : Frame) (y z : ℕ) (heights : List ℕ) (cuts : List Bool) (floors : List ℕ) (eases edges a b c : List Float) (flags : List Bool) (wy : Float)
-    → y < f.size → z < f.size → wy ≡ real (f.oy +ℤ pos y) → Cuts f z cuts → Noted f.size 27 (cave_coord f) floors eases → AllLayers y z f.size floors eases edges
+    → y < f.size → z < f.size → wy ≡ real (f.oy +ℤ pos y) → Cuts f z cuts → Noted f.size 27 (cave_coord f) floors eases
+    → AllLayers y z f.size floors eases edges
     → Row f.size (sum3_of 0 y z eases edges) a → Row f.size (sum3_of 3 y z eases edges) b → Row f.size (sum2_of 6 y z eases edges) c
     → Flags f.size (judged_at wy (z * f.size) heights cuts a b c) flags → Hollow f y z heights flags
 unfolding judged_at

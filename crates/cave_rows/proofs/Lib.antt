@@ -1,3 +1,1 @@
-mod Sums
-mod Columns
 mod Flags

@@ -1,5 +1,5 @@
 -- The sums of octaves along a row, and what they say of its cells (SCOPE 4.10). Assumes nothing.
-use Rattle.std.specs.Prelude.{◌≡◌, List, Bool, false, ◌&&◌, ◌||◌, ℕ, ◌+◌, ◌*◌, ◌<◌, pos, ◌+ℤ◌, Float, get_or}
+use Rattle.std.specs.Prelude.{◌≡◌, List, Bool, false, ◌&&◌, ◌||◌, ℕ, zero, suc, ◌+◌, ◌*◌, ◌<◌, pos, ◌+ℤ◌, Float, get_or}
 use Rattle.std.specs.Float.Ieee.{lt}
 use Rattle.num_core.specs.Num.{nearest, clamp₃₂}
 use Rattle.column.specs.Floats.{◌+f◌, ◌-f◌, ◌*f◌, ◌/f◌, nat, real, square}
@@ -13,11 +13,21 @@ use Rattle.cave_rows.specs.Layers.{level_at, depth_at}
 abbrev pub one_of : ℕ → ℕ → ℕ → List Float → List Float → ℕ → Float
 one_of o y z eases edges i = octave_at o (level_at o y) (depth_at o z) eases edges i
 
-unfoldable pub sum2_of : ℕ → ℕ → ℕ → List Float → List Float → ℕ → Float
-sum2_of o y z eases edges i = nat 0 +f one_of o y z eases edges i *f nat 1 +f one_of (o + 1) y z eases edges i *f nearest 1 2
+-- octave k of a field is half of the one before
+unfoldable pub amp_at : ℕ → Float
+amp_at zero = nat 1
+amp_at (suc k) = amp_at k *f nearest 1 2
 
-unfoldable pub sum3_of : ℕ → ℕ → ℕ → List Float → List Float → ℕ → Float
-sum3_of o y z eases edges i = sum2_of o y z eases edges i +f one_of (o + 2) y z eases edges i *f nearest 1 4
+-- the sum of so many octaves from o on
+unfoldable pub sum_of : ℕ → ℕ → ℕ → ℕ → List Float → List Float → ℕ → Float
+sum_of zero o y z eases edges i = nat 0
+sum_of (suc k) o y z eases edges i = sum_of k o y z eases edges i +f one_of (o + k) y z eases edges i *f amp_at k
+
+abbrev pub sum2_of : ℕ → ℕ → ℕ → List Float → List Float → ℕ → Float
+sum2_of = sum_of 2
+
+abbrev pub sum3_of : ℕ → ℕ → ℕ → List Float → List Float → ℕ → Float
+sum3_of = sum_of 3
 
 -- a cell by the sums of the three fields; the sums of the amplitudes are 1.75 and 1.5
 unfoldable pub hollow_of : Float → Float → Float → Float → Float → Bool → Bool

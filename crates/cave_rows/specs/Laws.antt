@@ -14,7 +14,7 @@ use Rattle.cave_tables.specs.Coords.{x_of, y_of, z_of, cave_coord}
 use Rattle.ground_cell.specs.Caves.{spaghetti_cave, large_cavern, ravine_here, ravine_cut, carved}
 use Rattle.ground_cell.specs.declared.world.Frame.{Frame}
 use Rattle.cave_rows.specs.Layers.{level_at, depth_at, AllLayers}
-use Rattle.cave_rows.specs.Fields.{one_of, sum2_of, sum3_of, hollow_of}
+use Rattle.cave_rows.specs.Fields.{one_of, amp_at, sum_of, sum2_of, sum3_of, hollow_of}
 
 -- sums that are written out
 three : (at : Float → Float) → (nat 0 +f at (nat 1) *f nat 1 +f at (nat 2) *f nearest 1 2 +f at (nat 4) *f nearest 1 4) /f nearest 7 4 ≡ fbm at 3
@@ -57,7 +57,7 @@ module _ (f : Frame) (y z : ℕ) (floors : List ℕ) (eases edges : List Float) 
   field_a : (i : ℕ) → i < f.size
       → sum3_of 0 y z eases edges i /f nearest 7 4
       ≡ fbm3d₃₂ (wx i *f nearest 4 100 +f nat 100) (wy *f nearest 6 100 +f nat 100) (wz *f nearest 4 100 +f nat 100) 3
-  unfolding sum3_of sum2_of fbm3d₃₂ along3 cave_coord x_of y_of z_of scaled_by
+  unfolding sum_of amp_at nearest mul fbm3d₃₂ along3 cave_coord x_of y_of z_of scaled_by
   field_a i k =
       ap₃ (λ (a b c : Float). (nat 0 +f a *f nat 1 +f b *f nearest 1 2 +f c *f nearest 1 4) /f nearest 7 4)
       (one_noise i k 0 (omega arith)) (one_noise i k 1 (omega arith)) (one_noise i k 2 (omega arith))
@@ -66,7 +66,7 @@ module _ (f : Frame) (y z : ℕ) (floors : List ℕ) (eases edges : List Float) 
   field_b : (i : ℕ) → i < f.size
       → sum3_of 3 y z eases edges i /f nearest 7 4
       ≡ fbm3d₃₂ (wx i *f nearest 4 100 -f nat 200) (wy *f nearest 6 100 -f nat 200) (wz *f nearest 4 100 +f nat 300) 3
-  unfolding sum3_of sum2_of fbm3d₃₂ along3 cave_coord x_of y_of z_of scaled_by
+  unfolding sum_of amp_at nearest mul fbm3d₃₂ along3 cave_coord x_of y_of z_of scaled_by
   field_b i k =
       ap₃ (λ (a b c : Float). (nat 0 +f a *f nat 1 +f b *f nearest 1 2 +f c *f nearest 1 4) /f nearest 7 4)
       (one_noise i k 3 (omega arith)) (one_noise i k 4 (omega arith)) (one_noise i k 5 (omega arith))
@@ -74,7 +74,7 @@ module _ (f : Frame) (y z : ℕ) (floors : List ℕ) (eases edges : List Float) 
 
   field_c : (i : ℕ) → i < f.size
       → sum2_of 6 y z eases edges i /f nearest 3 2 ≡ fbm3d₃₂ (wx i *f nearest 15 1000) (wy *f nearest 25 1000) (wz *f nearest 15 1000) 2
-  unfolding sum2_of fbm3d₃₂ along3 cave_coord x_of y_of z_of scaled_by
+  unfolding sum_of amp_at nearest mul fbm3d₃₂ along3 cave_coord x_of y_of z_of scaled_by
   field_c i k =
       ap₂ (λ (a b : Float). (nat 0 +f a *f nat 1 +f b *f nearest 1 2) /f nearest 3 2)
       (one_noise i k 6 (omega arith)) (one_noise i k 7 (omega arith))

@@ -6,21 +6,17 @@
 ghost use Rattle.std.specs.Prelude.{◌≡◌, ◌+◌, ◌*◌, ◌≤◌, ◌<◌, length};
 ghost use Rattle.noise_tables.specs.Row.{Row, Flags};
 ghost use Rattle.noise_tables.specs.Places.{Noted};
-ghost use Rattle.noise_rows.specs.Sums.{zero_at};
 ghost use Rattle.cave_tables.specs.Coords.{cave_coord};
 ghost use Rattle.cave_ravines.specs.Cuts.{Cuts};
 ghost use Rattle.ground_cell.specs.World.{Near};
 ghost use Rattle.cave_rows.specs.Layers.{CaveRoom, AllLayers};
-ghost use Rattle.cave_rows.specs.Fields.{sum3_of, sum2_of, hollow_of, judged_at, Hollow};
+ghost use Rattle.cave_rows.specs.Fields.{sum_of, hollow_of, judged_at, Hollow};
 
-use cave_tables::{CAVE_B, CAVERN, DEPTH_AT, LEVEL_AT, RAVINE};
-use ground_cell::world::{Frame, along};
+use cave_tables::{CAVE_B, CAVERN, DEPTH_AT, LEVEL_AT, RAVINE, place_at};
+use ground_cell::world::Frame;
 use noise_layers::{LAYER, add_row, layer_rows};
 use noise_tables::PLACES;
 use num_core::float::{clamp, of_i32};
-
-// From a place of an octave to the same place two octaves on.
-const TWO_OCTAVES: usize = 2 * PLACES;
 
 // How many octaves have levels: all before the ravines'.
 const LEVELLED: usize = RAVINE;
@@ -33,8 +29,7 @@ pub fn first_layers(y: usize, z: usize, n: usize, floors: &[u32], eases: &[f32],
     requires { CaveRoom y z n floors.now eases.now edges.old }
     ensures { AllLayers y z n floors.now eases.now edges.new }
 {
-    let mut o = 0;
-    while o < LEVELLED {
+    for o in 0..LEVELLED {
         layer_rows(
             o,
             o * PLACES + LEVEL_AT + y,
@@ -44,7 +39,6 @@ pub fn first_layers(y: usize, z: usize, n: usize, floors: &[u32], eases: &[f32],
             eases,
             edges,
         );
-        o += 1;
     }
 }
 
@@ -61,8 +55,7 @@ fn raise_layers(
     requires { (from < 64) × CaveRoom y z n floors.now eases.now edges.old × AllLayers from z n floors.now eases.now edges.old }
     ensures { AllLayers y z n floors.now eases.now edges.new }
 {
-    let mut o = 0;
-    while o < LEVELLED {
+    for o in 0..LEVELLED {
         let level = o * PLACES + LEVEL_AT;
         if floors[level + from] != floors[level + y] {
             layer_rows(
@@ -75,67 +68,39 @@ fn raise_layers(
                 edges,
             );
         }
-        o += 1;
     }
 }
 
-fn no_sums() -> [f32; PLACES]
-    ensures { Row 64 zero_at result }
+// The sums of `octaves` octaves from o on, for each cell of the row.
+fn sum_octaves(
+    octaves: usize,
+    o: usize,
+    y: usize,
+    z: usize,
+    n: usize,
+    eases: &[f32],
+    edges: &[f32],
+) -> [f32; PLACES]
+    requires { (o + octaves ≤ 8) × (y < 64) × (z < 64) × (n ≤ 64) × (length eases.now ≡ 1728) × (length edges.now ≡ 2048) }
+    ensures { Row n (sum_of octaves o y z eases.now edges.now) result }
 {
-    [0.0f32; PLACES]
-}
-
-// The sums of three octaves from o on, for each cell of the row.
-fn sum3(o: usize, y: usize, z: usize, n: usize, eases: &[f32], edges: &[f32]) -> [f32; PLACES]
-    requires { (o ≤ 5) × (y < 64) × (z < 64) × (n ≤ 64) × (length eases.now ≡ 1728) × (length edges.now ≡ 2048) }
-    ensures { Row n (sum3_of o y z eases.now edges.now) result }
-{
-    let ky = o * PLACES + LEVEL_AT + y;
-    let kz = o * PLACES + DEPTH_AT + z;
-    let mut sums = no_sums();
-    add_row(o, ky, kz, 1.0, n, eases, edges, &mut sums);
-    add_row(
-        o + 1,
-        ky + PLACES,
-        kz + PLACES,
-        0.5,
-        n,
-        eases,
-        edges,
-        &mut sums,
-    );
-    add_row(
-        o + 2,
-        ky + TWO_OCTAVES,
-        kz + TWO_OCTAVES,
-        0.25,
-        n,
-        eases,
-        edges,
-        &mut sums,
-    );
-    sums
-}
-
-// The same of two octaves.
-fn sum2(o: usize, y: usize, z: usize, n: usize, eases: &[f32], edges: &[f32]) -> [f32; PLACES]
-    requires { (o ≤ 6) × (y < 64) × (z < 64) × (n ≤ 64) × (length eases.now ≡ 1728) × (length edges.now ≡ 2048) }
-    ensures { Row n (sum2_of o y z eases.now edges.now) result }
-{
-    let ky = o * PLACES + LEVEL_AT + y;
-    let kz = o * PLACES + DEPTH_AT + z;
-    let mut sums = no_sums();
-    add_row(o, ky, kz, 1.0, n, eases, edges, &mut sums);
-    add_row(
-        o + 1,
-        ky + PLACES,
-        kz + PLACES,
-        0.5,
-        n,
-        eases,
-        edges,
-        &mut sums,
-    );
+    let mut sums = [0.0f32; PLACES];
+    let mut amp: f32 = 1.0;
+    for k in 0..octaves {
+        let q = o + k;
+        let at = q * PLACES;
+        add_row(
+            q,
+            at + LEVEL_AT + y,
+            at + DEPTH_AT + z,
+            amp,
+            n,
+            eases,
+            edges,
+            &mut sums,
+        );
+        amp *= 0.5;
+    }
     sums
 }
 
@@ -175,11 +140,9 @@ fn judge(
     ensures { Flags n
         (judged_at y k heights.now cuts.now a.now b.now c.now) flags.new }
 {
-    let mut i = 0;
-    while i < n {
-        let h = heights[k + i];
-        flags[i] = hollow_at(a[i], b[i], c[i], y, of_i32(h as i32), cuts[i]);
-        i += 1;
+    for (i, flag) in flags[..n].iter_mut().enumerate() {
+        let h = i32::from(heights[k + i]);
+        *flag = hollow_at(a[i], b[i], c[i], y, of_i32(h), cuts[i]);
     }
 }
 
@@ -211,9 +174,9 @@ pub fn hollow_row(
 {
     let n = f.size;
     raise_layers(from, y, z, n, floors, eases, edges);
-    let a = sum3(0, y, z, n, eases, edges);
-    let b = sum3(CAVE_B, y, z, n, eases, edges);
-    let c = sum2(CAVERN, y, z, n, eases, edges);
-    let wy = along(f.oy, y);
-    judge(of_i32(wy), z * n, n, heights, cuts, &a, &b, &c, flags);
+    let a = sum_octaves(3, 0, y, z, n, eases, edges);
+    let b = sum_octaves(3, CAVE_B, y, z, n, eases, edges);
+    let c = sum_octaves(2, CAVERN, y, z, n, eases, edges);
+    let wy = place_at(f.oy, y);
+    judge(wy, z * n, n, heights, cuts, &a, &b, &c, flags);
 }

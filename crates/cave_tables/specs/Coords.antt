@@ -5,6 +5,10 @@ use Rattle.noise_tables.specs.Scaled.{scaled_by}
 use Rattle.column.specs.Floats.{◌+f◌, ◌-f◌, ◌*f◌, nat, real}
 use Rattle.ground_cell.specs.declared.world.Frame.{Frame}
 
+-- octave o of an axis: 0 to 2 and 3 to 5 of spaghetti caves, from 6 on of caverns
+unfoldable pub octave_of : ℕ → Float → Float → Float → Float
+octave_of o cave_a cave_b cavern = cond (ltb o 3) (scaled_by o cave_a) (cond (ltb o 6) (scaled_by (o - 3) cave_b) (scaled_by (o - 6) cavern))
+
 -- octave o of all along x: 0 to 2 and 3 to 5 of spaghetti caves, 6 and 7 of caverns, 8 to 10 of ravines
 unfoldable pub x_of : ℕ → Float → Float
 x_of o x =

@@ -3,13 +3,15 @@
 // three; along y, and then along z, come the octaves of all but ravines.
 #![tactic(auto)]
 
-ghost use Rattle.std.specs.Prelude.{◌≡◌, ◌≤◌, ◌<◌, length};
-ghost use Rattle.noise_tables.specs.Row.{Row};
+ghost use Rattle.std.specs.Prelude.{◌≡◌, ◌≤◌, ◌<◌, pos, ◌+ℤ◌, length};
+ghost use Rattle.std.specs.Int.Signed.{mag};
+ghost use Rattle.column.specs.Floats.{real};
 ghost use Rattle.noise_tables.specs.Places.{Noted};
 ghost use Rattle.ground_cell.specs.World.{Near};
-ghost use Rattle.cave_tables.specs.Coords.{x_of, y_of, z_of, cave_coord};
+ghost use Rattle.cave_tables.specs.Coords.{octave_of, cave_coord};
 
 use ground_cell::world::{Frame, along};
+use noise_fill::fill_row;
 use noise_tables::{PLACES, note_octave, scaled};
 use num_core::float::of_i32;
 
@@ -36,43 +38,25 @@ pub const DEPTH_AT: usize = DEPTH * PLACES;
 
 pub const TABLE: usize = OCTAVES * PLACES;
 
-fn x_at(o: usize, x: f32) -> f32
-    ensures { result ≡ x_of o x }
+// The world's coordinate i places from o, as the noise takes it.
+pub fn place_at(o: i32, i: usize) -> f32
+    requires { (mag o ≤ 1000000) × (i < 65536) }
+    ensures { result ≡ real (o +ℤ pos i) }
 {
-    if o < CAVE_B {
-        return scaled(o, x * 0.04 + 100.0);
-    }
-    if o < CAVERN {
-        return scaled(o - CAVE_B, x * 0.04 - 200.0);
-    }
-    if o < RAVINE {
-        return scaled(o - CAVERN, x * 0.015);
-    }
-    scaled(o - RAVINE, x * 0.01)
+    let w = along(o, i);
+    of_i32(w)
 }
 
-fn y_at(o: usize, y: f32) -> f32
-    ensures { result ≡ y_of o y }
+// Octave o of an axis, of its coordinates in the two fields of spaghetti caves and in that of caverns.
+#[tactic(auto, using(std::proofs::lemmas::Bool::Decides::nat_tests), unfolding(crate::specs::Coords::octave_of))]
+fn octave_at(o: usize, cave_a: f32, cave_b: f32, cavern: f32) -> f32
+    ensures { result ≡ octave_of o cave_a cave_b cavern }
 {
-    if o < CAVE_B {
-        return scaled(o, y * 0.06 + 100.0);
+    match o {
+        0..CAVE_B => scaled(o, cave_a),
+        CAVE_B..CAVERN => scaled(o - CAVE_B, cave_b),
+        _ => scaled(o - CAVERN, cavern),
     }
-    if o < CAVERN {
-        return scaled(o - CAVE_B, y * 0.06 - 200.0);
-    }
-    scaled(o - CAVERN, y * 0.025)
-}
-
-fn z_at(o: usize, z: f32) -> f32
-    ensures { result ≡ z_of o z }
-{
-    if o < CAVE_B {
-        return scaled(o, z * 0.04 + 100.0);
-    }
-    if o < CAVERN {
-        return scaled(o - CAVE_B, z * 0.04 + 300.0);
-    }
-    scaled(o - CAVERN, z * 0.015)
 }
 
 // Octave o at place i of its axis.
@@ -80,40 +64,35 @@ fn coord(f: Frame, o: usize, i: usize) -> f32
     requires { Near f × (i < 64) }
     ensures { result ≡ cave_coord f o i }
 {
-    if o < LEVEL {
-        let wx = along(f.ox, i);
-        return x_at(o, of_i32(wx));
-    }
-    if o < DEPTH {
-        let wy = along(f.oy, i);
-        return y_at(o - LEVEL, of_i32(wy));
-    }
-    let wz = along(f.oz, i);
-    z_at(o - DEPTH, of_i32(wz))
-}
-
-fn fill_coords(f: Frame, o: usize, ts: &mut [f32])
-    requires { Near f × (f.size ≤ length ts.old) }
-    ensures { Row f.size (cave_coord f o) ts.new }
-{
-    let n = f.size;
-    let mut i = 0;
-    while i < n {
-        ts[i] = coord(f, o, i);
-        i += 1;
+    match o {
+        0..RAVINE => {
+            let x = place_at(f.ox, i);
+            octave_at(o, x * 0.04 + 100.0, x * 0.04 - 200.0, x * 0.015)
+        }
+        RAVINE..LEVEL => {
+            let x = place_at(f.ox, i);
+            scaled(o - RAVINE, x * 0.01)
+        }
+        LEVEL..DEPTH => {
+            let y = place_at(f.oy, i);
+            octave_at(o - LEVEL, y * 0.06 + 100.0, y * 0.06 - 200.0, y * 0.025)
+        }
+        _ => {
+            let z = place_at(f.oz, i);
+            octave_at(o - DEPTH, z * 0.04 + 100.0, z * 0.04 + 300.0, z * 0.015)
+        }
     }
 }
 
 // Fills the tables for a chunk; ts is room for the coordinates of an octave.
+// (The other tables have a loop like this one: each has its own edit on it.)
 pub fn note_coords(f: Frame, ts: &mut [f32], floors: &mut [u32], eases: &mut [f32])
     requires { Near f × (f.size ≤ length ts.old) × (length floors.old ≡ 1728) × (length eases.old ≡ 1728) }
     ensures { Noted f.size 27 (cave_coord f) floors.new eases.new }
 {
     let n = f.size;
-    let mut o = 0;
-    while o < OCTAVES {
-        fill_coords(f, o, ts);
+    for o in 0..OCTAVES {
+        fill_row(n, |i| coord(f, o, i), ts);
         note_octave(ts, o * PLACES, n, floors, eases);
-        o += 1;
     }
 }

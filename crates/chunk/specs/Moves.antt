@@ -11,10 +11,12 @@ pub use Rattle.grid.specs.Grid.{put_inside, see_inside}
 use Rattle.grid.specs.Count.{non_air, non_air_count, count_most, non_air_most}
 use Rattle.grid_edits.specs.Edits.{clipped_height, lay_column, fill_cells, set_cells}
 use Rattle.std.proofs.lemmas.Bool.{lt-leb}
+use Rattle.config.specs.declared.refusals.Refusal.{Refusal}
+use Rattle.config.specs.Numbers.{number_of}
 use Rattle.config.specs.Refusals.{passed, refusal, passed_on, passed_stop, refusal_none}
-use Rattle.config.specs.Answers.{accepted, refused_with, is_refused, not_refused, cells_outcome}
+use Rattle.config.specs.Answers.{accepted, refused_with, is_refused, is_refused_by, not_refused, cells_outcome}
 use Rattle.chunk.specs.Calls.{edited}
-use Rattle.chunk.specs.Tests.{Inside, CellOk, cell_at_lem, count_ok, count_refusal, count_pass}
+use Rattle.chunk.specs.Tests.{Inside, CellOk, cell_at_lem, count_ok, count_refusal, count_pass, first_stops}
 
 -- one cell of a list
 pub count_set : (c : List ℕ) (i v : ℕ) → i < length c → non_air_count (set c i v) + non_air (get_or c i 0) ≡ non_air_count c + non_air v
@@ -118,6 +120,12 @@ edit_input input size count v c d k i h =
     let e = passed_stop input (passed (count_refusal size count (non_air_count c) (non_air_count d)) ∷ []) (λ q. h (i ∙ q)) in
     ap (λ (n : ℕ). cells_outcome (refused_with n) c) (i ∙ sym e) ∙ sym (is_refused _ _ _ (λ q. h (i ∙ sym e ∙ q)))
 
+-- a refusal by the tests of the input
+pub edit_refused : (r : Refusal) (input size count : ℕ) (v c d : List ℕ) → number_of r ≡ input
+    → cells_outcome (refused_with (number_of r)) c ≡ edited input size count v c d
+unfolding edited
+edit_refused r input size count v c d i = sym (is_refused_by r _ _ _ (first_stops r input _ i))
+
 module _ (input size count : ℕ) (v c d : List ℕ) (p q : ℕ) (none : input ≡ 0) (moves : non_air_count d + p ≡ non_air_count c + q) where
   second : refusal (passed input ∷ passed (count_refusal size count (non_air_count c) (non_air_count d)) ∷ [])
       ≡ refusal (passed (count_refusal size count p q) ∷ [])
@@ -130,6 +138,12 @@ module _ (input size count : ℕ) (v c d : List ℕ) (p q : ℕ) (none : input �
   edit_count m i h =
       let e = second ∙ passed_stop (count_refusal size count p q) [] (λ z. h (i ∙ z)) in
       ap (λ (n : ℕ). cells_outcome (refused_with n) c) (i ∙ sym e) ∙ sym (is_refused _ _ _ (λ z. h (i ∙ sym e ∙ z)))
+
+  -- a refusal by the count's test
+  pub edit_count_refused : (r : Refusal) → number_of r ≡ count_refusal size count p q
+      → cells_outcome (refused_with (number_of r)) c ≡ edited input size count v c d
+  unfolding edited
+  edit_count_refused r i = sym (is_refused_by r _ _ _ (first_stops r _ [] i ∙ sym second))
 
   pub edit_done : (m : ℕ) → m ≡ count_refusal size count p q → m ≡ 0 → cells_outcome (accepted (v ++ ((count + q - p) ∷ []))) d ≡ edited input size count v c d
   unfolding edited

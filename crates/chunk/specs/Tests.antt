@@ -1,13 +1,15 @@
 -- The refusals of calls on bare cells (SCOPE 10.2, 10.3), and what holds where none answers. Assumes nothing.
 use Rattle.std.specs.Prelude.{◌≡◌, ℕ, ◌+◌, ◌-◌, ◌*◌, ◌≤◌, ◌<◌, Bool, true, false, ◌&&◌, leb, eqb, pos, length}
-use Rattle.std.proofs.Common.{◌∙◌, arith}
+use Rattle.std.proofs.Common.{sym, ◌∙◌, arith}
 use mathlib.Core.List.{List, [], ◌∷◌}
 use borrow.Author.Tests.{leb-true, eqb-true, le-leb, lt-leb}
 use Rattle.basics.specs.Bools.{and_both}
 use Rattle.grid.specs.Cube.{Cube, cell_index, inside}
 use Rattle.grid.specs.Grid.{index_lt, cube_most}
 pub use Rattle.grid.specs.Grid.{Inside, inside_true}
-use Rattle.config.specs.Refusals.{must, passed, refusal, refusal_zero, passed_zero, passed_on, passed_stop, refusal_none, refusal_pass, refusal_stop}
+use Rattle.config.specs.declared.refusals.Refusal.{Refusal}
+use Rattle.config.specs.Numbers.{number_of, number_some}
+use Rattle.config.specs.Refusals.{Test, must, passed, refusal, refusal_zero, passed_zero, passed_on, passed_stop, refusal_none, refusal_pass, refusal_stop}
 use Rattle.config.specs.Limits.{size_ok, size_between}
 
 -- 1, by the limit that the settings' size has too, then 6
@@ -47,6 +49,8 @@ module _ (size count before after : ℕ) where
     unfolding count_refusal count_ok
     count_pass l h = refusal_pass _ 21 [] (rw (le-leb _ _ held, le-leb _ _ l, le-leb _ _ h)) ∙ refusal_none
 
+pub ruleset counts = (count_held, count_low, count_high, count_pass)
+
 -- ---- how a test after those of the chunk answers
 
 pub then_chunk : (size n : ℕ) (b : Bool) (k : ℕ)
@@ -58,6 +62,10 @@ then_stop size n b k e f = passed_on (chunk_refusal size n) (must b k ∷ []) e 
 
 pub then_pass : (size n : ℕ) (b : Bool) (k : ℕ) → chunk_refusal size n ≡ 0 → b ≡ true → refusal (passed (chunk_refusal size n) ∷ must b k ∷ []) ≡ 0
 then_pass size n b k e f = passed_on (chunk_refusal size n) (must b k ∷ []) e ∙ refusal_pass b k [] f ∙ refusal_none
+
+-- a refusal by the tests before
+pub first_stops : (r : Refusal) (n : ℕ) (ts : List Test) → number_of r ≡ n → number_of r ≡ refusal (passed n ∷ ts)
+first_stops r n ts e = e ∙ sym (passed_stop n ts (λ q. number_some r (e ∙ q)))
 
 -- ---- what holds where none of them answers
 
@@ -76,6 +84,12 @@ chunk_passed size n e =
     let lo = b.least in
     let hi = b.most in
     record { least = omega arith; most = omega arith; all = eqb-true n (size * size * size) q.0 }
+
+pub chunk_all : (size n : ℕ) → 0 ≡ chunk_refusal size n → n ≡ size * size * size
+chunk_all size n e = (chunk_passed size n (sym e)).all
+
+-- what a test behind those of a chunk needs of them
+pub ruleset behind = (first_stops, chunk_all)
 
 pub cube_of : (size : ℕ) (c : List ℕ) → Chunk size (length c) → Cube size c
 cube_of size c h = record { most = h.most; all = h.all }

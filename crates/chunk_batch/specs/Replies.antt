@@ -1,21 +1,22 @@
 -- What the answer of a batch says (SCOPE 5.6). Assumes nothing.
-use Rattle.std.specs.Prelude.{◌≡◌, [], ◌∷◌}
-use Rattle.std.proofs.Common.{sym, ap, ap₂}
-use Rattle.config.specs.Answers.{Answer, accepted, refused_with, never_both}
-use Rattle.chunk_batch.specs.declared.BatchReply.{BatchReply}
-use Rattle.chunk_batch.specs.declared.BatchReply.TheVariants as batch_reply
+use Rattle.std.specs.Prelude.{◌≡◌, ℕ, List, [], ◌∷◌, Result}
+use Rattle.config.specs.declared.refusals.Refusal.{Refusal}
+use Rattle.config.specs.Answers.{Answer, says, says_same}
+use Rattle.chunk_batch.specs.declared.Batched.{Batched}
 
 -- the number of groups written and the count after them
-abbrev pub says_written : BatchReply → Answer
-says_written (batch_reply.Written n k) = accepted (n ∷ k ∷ [])
-says_written (batch_reply.Refused n) = refused_with n
+abbrev pub batch_values : Batched → List ℕ
+batch_values b = b.written ∷ b.count ∷ []
+
+abbrev pub says_written : Result Batched Refusal → Answer
+says_written = says batch_values
+
+same_values : (a b : Batched) → batch_values a ≡ batch_values b → a ≡ b
+same_values a b e =
+    let q : a.written ≡ b.written = cc in
+    let r : a.count ≡ b.count = cc in
+    λ i. record { written = q i; count = r i }
 
 -- answers that say the same are the same
-pub same_written : (a b : BatchReply) → says_written a ≡ says_written b → a ≡ b
-same_written (batch_reply.Written m j) (batch_reply.Written n k) e =
-    let q : m ≡ n = cc in
-    let r : j ≡ k = cc in
-    ap₂ batch_reply.Written q r
-same_written (batch_reply.Written m j) (batch_reply.Refused n) e = absurd (never_both (m ∷ j ∷ []) n 0 e)
-same_written (batch_reply.Refused m) (batch_reply.Written n k) e = absurd (never_both (n ∷ k ∷ []) m 0 (sym e))
-same_written (batch_reply.Refused m) (batch_reply.Refused n) e = let q : m ≡ n = cc in ap batch_reply.Refused q
+pub same_written : (a b : Result Batched Refusal) → says_written a ≡ says_written b → a ≡ b
+same_written = says_same batch_values same_values

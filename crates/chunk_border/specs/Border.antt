@@ -1,20 +1,18 @@
 -- What `extract_border` does (SCOPE 5.8). Assumes nothing.
-use Rattle.std.specs.Prelude.{◌≡◌, refl, ℕ, zero, suc, ◌-◌, ◌*◌, ◌/◌, ◌%◌, ◌<◌, List, [], ◌∷◌, eqb, length, get_or}
-use Rattle.std.proofs.Common.{sym, ap, arith, mod-lt, eqb-true}
+use Rattle.std.specs.Prelude.{◌≡◌, refl, ℕ, zero, suc, ◌-◌, ◌*◌, ◌/◌, ◌%◌, ◌<◌, List, [], ◌∷◌, eqb, length, get_or, Result, ⊤}
+use Rattle.std.proofs.Common.{arith, mod-lt, eqb-true}
 use Rattle.grid.specs.Cube.{cell_index, tab}
 use Rattle.grid.specs.Grid.{index_lt, below_2}
 use Rattle.config.specs.Refusals.{must, passed, refusal, refusal_zero, passed_zero}
-use Rattle.config.specs.Answers.{Answer, accepted, refused_with, never_both, unless_refused}
+use Rattle.config.specs.Answers.{Answer, accepted, refused_with, says, says_same, unless_refused}
 use Rattle.chunk.specs.Tests.{chunk_refusal, Chunk, chunk_passed}
 use Rattle.chunk_border.specs.declared.Face.{Face}
 use Rattle.chunk_border.specs.declared.Face.TheVariants.{PosX, NegX, PosY, NegY, PosZ, NegZ}
-use Rattle.chunk_border.specs.declared.Extracted.{Extracted}
-use Rattle.chunk_border.specs.declared.Extracted.TheVariants as extracted
+use Rattle.config.specs.declared.refusals.Refusal.{Refusal}
 
 -- what is handed out lies in the lent slice: no values
-abbrev pub says_extracted : Extracted → Answer
-says_extracted extracted.Done = accepted []
-says_extracted (extracted.Refused n) = refused_with n
+abbrev pub says_extracted : Result ⊤ Refusal → Answer
+says_extracted = says (λ (t : ⊤). [])
 
 -- where the k-th block of a side stands among the cells
 unfoldable pub border_source : Face → ℕ → ℕ → ℕ
@@ -46,11 +44,8 @@ chunk_border_does face size c b =
 -- ---- laws
 
 -- answers that say the same are the same: what was handed out is no refusal with number 0
-pub same_extracted : (a b : Extracted) → says_extracted a ≡ says_extracted b → a ≡ b
-same_extracted extracted.Done extracted.Done e = refl
-same_extracted extracted.Done (extracted.Refused n) e = absurd (never_both [] n 0 e)
-same_extracted (extracted.Refused m) extracted.Done e = absurd (never_both [] m 0 (sym e))
-same_extracted (extracted.Refused m) (extracted.Refused n) e = let q : m ≡ n = cc in ap extracted.Refused q
+pub same_extracted : (a b : Result ⊤ Refusal) → says_extracted a ≡ says_extracted b → a ≡ b
+same_extracted = says_same (λ (t : ⊤). []) (λ a b e. refl)
 
 pub record BorderOk (size n m : ℕ) : Type 0 where
   pub chunk : Chunk size n

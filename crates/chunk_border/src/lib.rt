@@ -3,12 +3,14 @@
 
 ghost use Rattle.std.specs.Prelude.{◌≡◌, ◌≤◌, ◌<◌, ◌*◌, length};
 ghost use Rattle.grid.specs.Cube.{Cube};
+ghost use Rattle.config.specs.Numbers.{refusal_in};
+ghost use Rattle.chunk_border.specs.Faces.{face_of, face_or};
 ghost use Rattle.chunk_border.specs.Border.{border_source, border_of, border_refusal, says_extracted, bordered, chunk_border_does};
 
-use config::refusals::{LENGTH, OK};
+use config::Refusal;
 
 // The six sides of a chunk, by the names of the Rust original.
-#[derive(Clone, Copy)]
+#[derive(Clone, Copy, PartialEq, Eq)]
 pub enum Face {
     PosX,
     NegX,
@@ -18,41 +20,54 @@ pub enum Face {
     NegZ,
 }
 
-#[derive(Drop)]
-pub enum Extracted {
-    Done,
-    Refused(u32),
+// The face of a number, 0 to 5 in the order of the Rust.
+impl TryFrom<u32> for Face {
+    type Error = Refusal;
+
+    ghost try_from_gives = { λ n result. result ≡ face_or (face_of n) };
+
+    fn try_from(n: u32) -> Result<Face, Refusal> {
+        match n {
+            0 => Ok(Face::PosX),
+            1 => Ok(Face::NegX),
+            2 => Ok(Face::PosY),
+            3 => Ok(Face::NegY),
+            4 => Ok(Face::PosZ),
+            5 => Ok(Face::NegZ),
+            _ => Err(Refusal::Face),
+        }
+    }
 }
 
 // Where the k-th block of a border stands among the cells.
+#[tactic(auto, unfolding(crate::specs::Border::border_source))]
 fn source(face: Face, size: usize, k: usize) -> usize
     requires { (size ≤ 64) × (k < size * size) }
     ensures { result ≡ border_source face size k }
 {
-    let u = k % size;
-    let v = k / size;
-    match face {
-        Face::PosX => grid::cell_index(size, size - 1, v, u),
-        Face::NegX => grid::cell_index(size, 0, v, u),
-        Face::PosY => grid::cell_index(size, u, size - 1, v),
-        Face::NegY => grid::cell_index(size, u, 0, v),
-        Face::PosZ => grid::cell_index(size, u, v, size - 1),
-        Face::NegZ => grid::cell_index(size, u, v, 0),
-    }
+    let last = size - 1;
+    let (u, v) = (k % size, k / size);
+    let (x, y, z) = match face {
+        Face::PosX => (last, v, u),
+        Face::NegX => (0, v, u),
+        Face::PosY => (u, last, v),
+        Face::NegY => (u, 0, v),
+        Face::PosZ => (u, v, last),
+        Face::NegZ => (u, v, 0),
+    };
+    grid::cell_index(size, x, y, z)
 }
 
-// Refusal 1 or 6 of the cells and of the border's slice, or 0.
-fn refuse_border(size: usize, n: usize, m: usize) -> u32
-    ensures { result ≡ border_refusal size n m }
+// Refusal 1 or 6 of the cells and of the border's slice.
+#[tactic(auto, using(chunk::specs::Tests::behind, grid::specs::Grid::cube), unfolding(crate::specs::Border::border_refusal, config::specs::Refusals::refusal))]
+fn refuse_border(size: usize, n: usize, m: usize) -> Result<(), Refusal>
+    ensures { refusal_in result ≡ border_refusal size n m }
 {
-    let k = chunk::refuse_chunk(size, n);
-    if k != OK {
-        return k;
-    }
+    chunk::refuse_chunk(size, n)?;
     if m != size * size {
-        return LENGTH;
+        return Err(Refusal::Length);
     }
-    OK
+    Ok(())
 }
 
 // Copies the layer.
@@ -60,22 +75,22 @@ fn copy_border(cells: &[u16], size: usize, face: Face, border: &mut [u16])
     requires { Cube size cells.now × (length border.old ≡ size * size) }
     ensures { border.new ≡ border_of face size cells.now }
 {
-    let mut k = 0;
-    while k < border.len() {
-        let i = source(face, size, k);
-        border[k] = cells[i];
-        k += 1;
+    for (k, place) in border.iter_mut().enumerate() {
+        *place = cells[source(face, size, k)];
     }
 }
 
 // Hands the layer on one side out: X sides at z + y * size, Y sides at x + z * size, Z sides at x + y * size.
-pub fn extract_border(cells: &[u16], size: usize, face: Face, border: &mut [u16]) -> Extracted
+#[tactic(auto, using(config::specs::Answers::is_refused_by), unfolding(crate::specs::Border::chunk_border_does))]
+pub fn extract_border(
+    cells: &[u16],
+    size: usize,
+    face: Face,
+    border: &mut [u16],
+) -> Result<(), Refusal>
     ensures { bordered (says_extracted result) border.new ≡ chunk_border_does face size cells.now border.old }
 {
-    let k = refuse_border(size, cells.len(), border.len());
-    if k != OK {
-        return Extracted::Refused(k);
-    }
+    refuse_border(size, cells.len(), border.len())?;
     copy_border(cells, size, face, border);
-    Extracted::Done
+    Ok(())
 }

@@ -2,54 +2,38 @@
 // a call does not take are refused with the cause's number (SCOPE 10.2, 10.3), and the cells are then as they were.
 #![tactic(auto)]
 
-ghost use Rattle.std.specs.Prelude.{◌≡◌, length};
+ghost use Rattle.std.specs.Prelude.{◌≡◌};
 ghost use Rattle.config.specs.Answers.{cells_outcome};
+ghost use Rattle.config.specs.Numbers.{refusal_in};
 ghost use Rattle.chunk.specs.Replies.{says_counted};
 ghost use Rattle.chunk_edit.specs.Calls.{replace_refusal, chunk_replace_does, chunk_set_does, chunk_fill_does};
 
-use chunk::Counted;
-use config::refusals::{LENGTH, OK};
+use config::Refusal;
 
-// Refusal 1 or 6 of the cells and of the slice that replaces them, or 0.
-fn refuse_replace(size: usize, n: usize, m: usize) -> u32
-    ensures { result ≡ replace_refusal size n m }
+// Refusal 1 or 6 of the cells and of the slice that replaces them.
+#[tactic(auto, using(chunk::specs::Tests::behind), unfolding(crate::specs::Calls::replace_refusal, config::specs::Refusals::refusal))]
+fn refuse_replace(size: usize, n: usize, m: usize) -> Result<(), Refusal>
+    ensures { refusal_in result ≡ replace_refusal size n m }
 {
-    let k = chunk::refuse_chunk(size, n);
-    if k != OK {
-        return k;
-    }
+    chunk::refuse_chunk(size, n)?;
     if m != n {
-        return LENGTH;
+        return Err(Refusal::Length);
     }
-    OK
-}
-
-// Copies the blocks over the cells.
-fn copy(cells: &mut [u16], blocks: &[u16])
-    requires { length cells.old ≡ length blocks.now }
-    ensures { cells.new ≡ blocks.now }
-{
-    let mut i = 0;
-    while i < blocks.len() {
-        cells[i] = blocks[i];
-        i += 1;
-    }
+    Ok(())
 }
 
 // Replaces all cells, and counts them anew.
-pub fn replace_blocks(cells: &mut [u16], size: usize, blocks: &[u16]) -> Counted
+#[tactic(auto, using(config::specs::Answers::is_refused_by), unfolding(crate::specs::Calls::chunk_replace_does))]
+pub fn replace_blocks(cells: &mut [u16], size: usize, blocks: &[u16]) -> Result<u32, Refusal>
     ensures { cells_outcome (says_counted result) cells.new ≡ chunk_replace_does size cells.old blocks.now }
 {
-    let k = refuse_replace(size, cells.len(), blocks.len());
-    if k != OK {
-        return Counted::Refused(k);
-    }
-    copy(cells, blocks);
-    let n = grid::count_non_air(blocks);
-    Counted::Count(n as u32)
+    refuse_replace(size, cells.len(), blocks.len())?;
+    cells.copy_from_slice(blocks);
+    Ok(grid::count_non_air(blocks) as u32)
 }
 
 // Sets one cell.
+#[tactic(auto, using(chunk::specs::Moves::edit_refused), unfolding(crate::specs::Calls::chunk_set_does))]
 pub fn set(
     cells: &mut [u16],
     size: usize,
@@ -58,25 +42,20 @@ pub fn set(
     y: usize,
     z: usize,
     id: u16,
-) -> Counted
+) -> Result<u32, Refusal>
     ensures { cells_outcome (says_counted result) cells.new ≡ chunk_set_does size count cells.old x y z id }
 {
-    let k = chunk::refuse_cell(size, cells.len(), x, y, z);
-    if k != OK {
-        return Counted::Refused(k);
-    }
+    chunk::refuse_cell(size, cells.len(), x, y, z)?;
     let i = grid::cell_index(size, x, y, z);
     let before = grid::non_air(cells[i]);
     let after = grid::non_air(id);
-    let m = chunk::refuse_count(size, count, before, after);
-    if m != OK {
-        return Counted::Refused(m);
-    }
+    chunk::refuse_count(size, count, before, after)?;
     cells[i] = id;
-    Counted::Count(count + after - before)
+    Ok(count + after - before)
 }
 
 // Fills a column from the bottom.
+#[tactic(auto, using(chunk::specs::Moves::edit_refused), unfolding(crate::specs::Calls::chunk_fill_does))]
 pub fn fill_column(
     cells: &mut [u16],
     size: usize,
@@ -85,20 +64,14 @@ pub fn fill_column(
     z: usize,
     height: usize,
     id: u16,
-) -> Counted
+) -> Result<u32, Refusal>
     ensures { cells_outcome (says_counted result) cells.new ≡ chunk_fill_does size count cells.old x z height id }
 {
-    let k = chunk::refuse_chunk(size, cells.len());
-    if k != OK {
-        return Counted::Refused(k);
-    }
+    chunk::refuse_chunk(size, cells.len())?;
     let h = chunk::column_height(size, x, z, height);
     let before = chunk::column_count(cells, size, x, z, h);
     let after = h as u32 * grid::non_air(id);
-    let m = chunk::refuse_count(size, count, before, after);
-    if m != OK {
-        return Counted::Refused(m);
-    }
+    chunk::refuse_count(size, count, before, after)?;
     chunk::lay_column(cells, size, x, z, h, id);
-    Counted::Count(count + after - before)
+    Ok(count + after - before)
 }

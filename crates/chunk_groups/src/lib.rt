@@ -22,16 +22,10 @@ pub struct BlockEdit {
 }
 
 // How many cells were not air before an edit and after it, as far as its own cells go.
-#[derive(Drop)]
+#[derive(Clone, Copy)]
 pub struct Change {
     pub before: usize,
     pub after: usize,
-}
-
-fn wide(n: u32) -> usize
-    ensures { result ≡ n }
-{
-    n as usize
 }
 
 // An id is taken modulo 65,536.
@@ -42,15 +36,16 @@ fn id_of(n: u32) -> u16
 }
 
 // Group k of a batch.
+#[tactic(auto, unfolding(journal_write::specs::Groups::group_of))]
 pub fn group_at(edits: &[u32], k: usize) -> BlockEdit
     requires { 4 * k + 4 ≤ length edits.now }
     ensures { group result.x result.y result.z result.id ≡ group_of edits.now (4 * k) }
 {
     let i = 4 * k;
     BlockEdit {
-        x: wide(edits[i]),
-        y: wide(edits[i + 1]),
-        z: wide(edits[i + 2]),
+        x: edits[i] as usize,
+        y: edits[i + 1] as usize,
+        z: edits[i + 2] as usize,
         id: id_of(edits[i + 3]),
     }
 }
@@ -59,17 +54,19 @@ pub fn group_at(edits: &[u32], k: usize) -> BlockEdit
 pub fn is_inside(size: usize, g: BlockEdit) -> bool
     ensures { result ≡ group_inside size (group g.x g.y g.z g.id) }
 {
-    (g.x < size) & ((g.y < size) & (g.z < size))
+    g.x < size && g.y < size && g.z < size
 }
 
 // The id that a cell holds once a group is laid on, where it held v.
+#[tactic(auto, unfolding(crate::specs::Laid::id_over))]
 fn id_over(g: BlockEdit, x: usize, y: usize, z: usize, v: u16) -> u16
     ensures { result ≡ id_over (group g.x g.y g.z g.id) x y z v }
 {
-    if (g.x == x) & ((g.y == y) & (g.z == z)) {
-        return g.id;
+    if g.x == x && g.y == y && g.z == z {
+        g.id
+    } else {
+        v
     }
-    v
 }
 
 // The id that a cell would hold with the first k groups laid on, found without laying them: the latest of them on the cell says it.
@@ -86,10 +83,8 @@ fn id_after(
     ensures { result ≡ see_at size x y z (laid size edits.now k cells.now) }
 {
     let mut v = grid::see(cells, size, x, y, z);
-    let mut j = 0;
-    while j < k {
+    for j in 0..k {
         v = id_over(group_at(edits, j), x, y, z, v);
-        j += 1;
     }
     v
 }
@@ -122,12 +117,10 @@ pub fn batch_change(cells: &[u16], size: usize, edits: &[u32]) -> Change
     let groups = edits.len() / 4;
     let mut before: usize = 0;
     let mut after: usize = 0;
-    let mut k = 0;
-    while k < groups {
+    for k in 0..groups {
         let c = group_change(cells, size, edits, k);
         before += c.before;
         after += c.after;
-        k += 1;
     }
     Change { before, after }
 }
@@ -152,12 +145,9 @@ pub fn batch_altered(cells: &[u16], size: usize, edits: &[u32]) -> usize
     ensures { result ≡ differing cells.now
         (batch_cells size (inside_groups size (batch_groups edits.now)) cells.now) }
 {
-    let n = edits.len() / 4;
     let mut altered: usize = 0;
-    let mut k = 0;
-    while k < n {
+    for k in 0..edits.len() / 4 {
         altered = group_altered(cells, size, edits, k, altered);
-        k += 1;
     }
     altered
 }
@@ -167,11 +157,8 @@ pub fn lay_groups(cells: &mut [u16], size: usize, edits: &[u32])
     requires { Cube size cells.old }
     ensures { cells.new ≡ batch_cells size (inside_groups size (batch_groups edits.now)) cells.old }
 {
-    let n = edits.len() / 4;
-    let mut k = 0;
-    while k < n {
+    for k in 0..edits.len() / 4 {
         let g = group_at(edits, k);
         grid::put(cells, size, g.x, g.y, g.z, g.id);
-        k += 1;
     }
 }

@@ -1,7 +1,10 @@
 -- The ids that cells hold, with their numbers of cells, in ascending order (SCOPE 5.9). Assumes nothing.
 use Rattle.std.specs.Prelude.{◌≡◌, refl, ℕ, zero, suc, ◌+◌, ◌-◌, ◌≤◌, ◌<◌, Bool, true, false, ◌&&◌, List, [], ◌∷◌, ◌++◌, map, ltb, eqb}
-use Rattle.std.proofs.Common.{sym, ap, ◌∙◌, arith, add-one, ext_get_or, get_or-set_same, get_or-set_other, take-suc, ltb-true, ltb-false, ne_eqb, eqb-true}
+use Rattle.std.proofs.Common.{sym, ap, ◌∙◌, subst, arith, add-one, ext_get_or, get_or-set_same, get_or-set_other, take-suc}
+use Rattle.std.proofs.Common.{ltb-true, ltb-false, ne_eqb, eqb-true}
 use lib.ListN.{length, set, get_or, take, length-set}
+use Rattle.std.proofs.Math.ListN.{replicate}
+use Rattle.std.proofs.lemmas.List.{length-replicate, get_or-replicate}
 use Rattle.std.proofs.lemmas.Bool.{eqb-false}
 use Rattle.basics.specs.Bools.{pick}
 use Rattle.grid.specs.Cube.{tab}
@@ -136,6 +139,15 @@ bump_table base c i h =
     ∙ ap (λ (n : ℕ). n + same (get_or c i 0) (base + k)) (table_at base (take i c) k j)
     ∙ sym (id_count_more c i (base + k) h)
     ∙ sym (table_at base (take (i + 1) c) k j))
+
+-- .. and what is filled with 0 is one
+pub table_filled : (base : ℕ) (t : List ℕ) → length t ≡ 8192 → replicate (length t) 0 ≡ id_table base []
+unfolding id_table id_count
+table_filled base t h =
+    ext_get_or 0 _ _ (length-replicate (length t) 0 ∙ h ∙ sym (tab_length 8192 (λ (k : ℕ). 0)))
+    (λ k b.
+    let l : k < length t = subst (λ (m : ℕ). k < m) (length-replicate (length t) 0) b in
+    get_or-replicate (length t) k 0 0 l ∙ sym (tab_at 8192 (λ (j : ℕ). 0) k (omega arith)))
 
 -- a table of no cells is all 0, from any base on
 pub table_none : (base : ℕ) → id_table 0 [] ≡ id_table base []

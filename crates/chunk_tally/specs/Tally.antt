@@ -1,17 +1,15 @@
 -- What a tally does (SCOPE 5.9). Assumes nothing.
-use Rattle.std.specs.Prelude.{◌≡◌, ℕ, ◌&&◌, List, [], ◌∷◌, leb, length}
-use Rattle.std.proofs.Common.{sym, ap}
+use Rattle.std.specs.Prelude.{◌≡◌, ℕ, ◌&&◌, List, [], ◌∷◌, leb, length, Result}
 use Rattle.std.proofs.lemmas.List.Edits.{sets}
 use Rattle.config.specs.Refusals.{must, passed, refusal}
-use Rattle.config.specs.Answers.{Answer, accepted, refused_with, never_both, unless_refused}
+use Rattle.config.specs.Answers.{Answer, accepted, refused_with, says, unless_refused}
+use Rattle.config.specs.declared.refusals.Refusal.{Refusal}
+use Rattle.chunk.specs.Replies.{one_number, same_counted}
 use Rattle.chunk.specs.Tests.{chunk_refusal}
 use Rattle.chunk_tally.specs.Ids.{present_ids, present_counts}
-use Rattle.chunk_tally.specs.declared.Listed.{Listed}
-use Rattle.chunk_tally.specs.declared.Listed.TheVariants as listed
 
-abbrev pub says_listed : Listed → Answer
-says_listed (listed.Ids n) = accepted (n ∷ [])
-says_listed (listed.Refused n) = refused_with n
+abbrev pub says_listed : Result ℕ Refusal → Answer
+says_listed = says one_number
 
 -- 1 and 6, then 13 where one of the lists is too short
 unfoldable pub tally_refusal : ℕ → List ℕ → ℕ → ℕ → ℕ
@@ -37,8 +35,5 @@ chunk_tally_does size c ids counts =
 -- ---- laws
 
 -- answers that say the same are the same
-pub same_listed : (a b : Listed) → says_listed a ≡ says_listed b → a ≡ b
-same_listed (listed.Ids m) (listed.Ids n) e = let q : m ≡ n = cc in ap listed.Ids q
-same_listed (listed.Ids m) (listed.Refused n) e = absurd (never_both (m ∷ []) n 0 e)
-same_listed (listed.Refused m) (listed.Ids n) e = absurd (never_both (n ∷ []) m 0 (sym e))
-same_listed (listed.Refused m) (listed.Refused n) e = let q : m ≡ n = cc in ap listed.Refused q
+pub same_listed : (a b : Result ℕ Refusal) → says_listed a ≡ says_listed b → a ≡ b
+same_listed = same_counted

@@ -21,10 +21,8 @@ fn copy_part(cells: &[u16], start: usize, part: &mut [u16])
     requires { (length part.old ≡ 16384) × (length cells.now ≤ 262144) × (start ≤ 262144) }
     ensures { part.new ≡ part_of start cells.now }
 {
-    let mut k = 0;
-    while k < part.len() {
-        part[k] = id_at(cells, start + k);
-        k += 1;
+    for (k, id) in part.iter_mut().enumerate() {
+        *id = id_at(cells, start + k);
     }
 }
 
@@ -32,13 +30,11 @@ fn copy_part(cells: &[u16], start: usize, part: &mut [u16])
 fn id_at(cells: &[u16], i: usize) -> u16
     ensures { result ≡ get_or cells.now i 0 }
 {
-    if i < cells.len() {
-        return cells[i];
-    }
-    0
+    cells.get(i).copied().unwrap_or(0)
 }
 
 // Lays a group on a copied part; what lies elsewhere is passed over.
+#[tactic(auto, using(chunk_groups::specs::Laid::group_inside_lem), unfolding(crate::specs::Trial::put_part, crate::specs::Trial::put_at_part))]
 fn put_part(part: &mut [u16], start: usize, size: usize, g: BlockEdit)
     requires { (length part.old ≡ 16384) × (size ≤ 64) }
     ensures { part.new ≡ put_part start size (group g.x g.y g.z g.id) part.old }
@@ -47,14 +43,9 @@ fn put_part(part: &mut [u16], start: usize, size: usize, g: BlockEdit)
         return;
     }
     let i = grid::cell_index(size, g.x, g.y, g.z);
-    if i < start {
-        return;
+    if start <= i && i - start < part.len() {
+        part[i - start] = g.id;
     }
-    let k = i - start;
-    if k >= part.len() {
-        return;
-    }
-    part[k] = g.id;
 }
 
 // All groups on a copied part, in their order.
@@ -62,12 +53,9 @@ fn lay_part(part: &mut [u16], start: usize, size: usize, edits: &[u32])
     requires { (length part.old ≡ 16384) × (size ≤ 64) }
     ensures { part.new ≡ part_laid start size edits.now (length edits.now / 4) part.old }
 {
-    let n = edits.len() / 4;
-    let mut k = 0;
-    while k < n {
+    for k in 0..edits.len() / 4 {
         let g = chunk_groups::group_at(edits, k);
         put_part(part, start, size, g);
-        k += 1;
     }
 }
 
@@ -76,14 +64,12 @@ fn trial_count(cells: &[u16], size: usize, edits: &[u32], part: &mut [u16]) -> u
     requires { Cube size cells.now × (length part.old ≡ 16384) }
     ensures { result ≡ non_air_count (batch_cells size (inside_groups size (batch_groups edits.now)) cells.now) }
 {
-    let n = cells.len();
     let mut total = 0;
-    let mut start = 0;
-    while start < n {
+    for k in 0..cells.len().div_ceil(PART) {
+        let start = k * PART;
         copy_part(cells, start, part);
         lay_part(part, start, size, edits);
         total += grid::count_non_air(part);
-        start += PART;
     }
     total
 }
@@ -109,7 +95,8 @@ pub fn any_change(cells: &[u16], size: usize, edits: &[u32]) -> Change
         (batch_cells size (inside_groups size (batch_groups edits.now)) cells.now) (length edits.now / 4 + 262144) result }
 {
     if edits.len() < LONG {
-        return chunk_groups::batch_change(cells, size, edits);
+        chunk_groups::batch_change(cells, size, edits)
+    } else {
+        trial_change(cells, size, edits)
     }
-    trial_change(cells, size, edits)
 }

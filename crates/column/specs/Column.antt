@@ -38,11 +38,14 @@ column_with temp moisture dw mw fw pw dh mh fh ph = record {
   plains_h = ph;
 }
 
--- SCOPE 4.2: the climate; no weights and heights yet
+-- no weights and heights yet
+abbrev pub with_climate : Float → Float → Column
+with_climate temp moisture = column_with temp moisture (nat 0) (nat 0) (nat 0) (nat 0) (nat 0) (nat 0) (nat 0) (nat 0)
+
+-- SCOPE 4.2: the climate
 unfoldable pub climate_of : Float → Float → Column
 climate_of x z =
-    column_with (offset_fbm₃₂ x z (nearest 3 1000) (nat 100) (nat 100) 4) (offset_fbm₃₂ x z (nearest 4 1000) (neg (nat 200)) (nat 300) 4)
-    (nat 0) (nat 0) (nat 0) (nat 0) (nat 0) (nat 0) (nat 0) (nat 0)
+    with_climate (offset_fbm₃₂ x z (nearest 3 1000) (nat 100) (nat 100) 4) (offset_fbm₃₂ x z (nearest 4 1000) (neg (nat 200)) (nat 300) 4)
 
 -- SCOPE 4.3: hot and dry; cold; wet, where the other two leave room; the rest, and at least 0.01
 unfoldable pub desert_weight₃₂ : Column → Float

@@ -1,9 +1,11 @@
 // The height and the biome of a column of the world: `get_biome` of terrain.rs. With `climate` and `relief_at` it is the plain form, a column at a
-// time, which nothing calls: `column_tops` notes a chunk's columns by rows and tables, equal to the same definitions, and takes `surface_of` alone.
+// time, which nothing calls: `column_tops` notes a chunk's columns by rows and tables, equal to the same definitions, and takes of it only
+// `with_climate` and `surface_of`.
 #![tactic(auto)]
 
 ghost use Rattle.std.specs.Prelude.{◌≡◌};
-ghost use Rattle.column.specs.Column.{relief_of, climate_of, weights_of, heights_of, blend₃₂, dominant_of, height_of, surface_of, biome_and_height};
+ghost use Rattle.column.specs.Column.{relief_of, with_climate, climate_of, weights_of, heights_of};
+ghost use Rattle.column.specs.Column.{blend₃₂, dominant_of, height_of, surface_of, biome_and_height};
 
 use column_shapes::{
     clamp_i32, cold_boost, continent, hill_boost, offset_fbm, ridges, scaled_fbm, smooth_ramp,
@@ -74,12 +76,10 @@ fn relief_at(x: f32, z: f32) -> Relief
     }
 }
 
-// The column with its climate only.
-fn climate(x: f32, z: f32) -> Column
-    ensures { result ≡ climate_of x z }
+// A column with its climate only.
+pub fn with_climate(temp: f32, moisture: f32) -> Column
+    ensures { result ≡ with_climate temp moisture }
 {
-    let temp = offset_fbm(x, z, 0.003, 100.0, 100.0, 4);
-    let moisture = offset_fbm(x, z, 0.004, -200.0, 300.0, 4);
     Column {
         temp,
         moisture,
@@ -94,6 +94,14 @@ fn climate(x: f32, z: f32) -> Column
     }
 }
 
+fn climate(x: f32, z: f32) -> Column
+    ensures { result ≡ climate_of x z }
+{
+    let temp = offset_fbm(x, z, 0.003, 100.0, 100.0, 4);
+    let moisture = offset_fbm(x, z, 0.004, -200.0, 300.0, 4);
+    with_climate(temp, moisture)
+}
+
 // The four weights as shares of their sum.
 fn weights(c: Column) -> Column
     ensures { result ≡ weights_of c }
@@ -103,12 +111,13 @@ fn weights(c: Column) -> Column
     let forest_w = smooth_ramp(c.moisture, 0.55, 0.1) * (1.0 - desert_w) * (1.0 - mountain_w);
     let plains_w = max(1.0 - desert_w - mountain_w - forest_w, 0.01);
     let total = desert_w + mountain_w + forest_w + plains_w;
-    let mut r = c;
-    r.dw = desert_w / total;
-    r.mw = mountain_w / total;
-    r.fw = forest_w / total;
-    r.pw = plains_w / total;
-    r
+    Column {
+        dw: desert_w / total,
+        mw: mountain_w / total,
+        fw: forest_w / total,
+        pw: plains_w / total,
+        ..c
+    }
 }
 
 // The four heights above the sea level `sl`.
@@ -118,12 +127,13 @@ fn heights(c: Column, n: Relief, sl: f32) -> Column
     let mountain_base = n.continent * 20.0 + n.ridges * 55.0 + n.detail * 12.0 + n.micro * 3.0;
     let cold = cold_boost(c.temp);
     let hill = hill_boost(n.hill_factor);
-    let mut r = c;
-    r.desert_h = sl + 1.0 + n.continent * 6.0 + n.dune * 6.0 + n.micro * 2.0;
-    r.mountain_h = sl + 6.0 + mountain_base * (1.0 + cold * 0.5);
-    r.forest_h = sl + 3.0 + n.continent * 14.0 + n.plateau * 8.0 + n.detail * 10.0 + n.micro * 3.0;
-    r.plains_h = sl + 2.0 + n.continent * 10.0 + n.detail * 6.0 + n.micro * 2.0 + hill;
-    r
+    Column {
+        desert_h: sl + 1.0 + n.continent * 6.0 + n.dune * 6.0 + n.micro * 2.0,
+        mountain_h: sl + 6.0 + mountain_base * (1.0 + cold * 0.5),
+        forest_h: sl + 3.0 + n.continent * 14.0 + n.plateau * 8.0 + n.detail * 10.0 + n.micro * 3.0,
+        plains_h: sl + 2.0 + n.continent * 10.0 + n.detail * 6.0 + n.micro * 2.0 + hill,
+        ..c
+    }
 }
 
 fn blend(c: Column) -> f32

@@ -3,8 +3,7 @@ use Rattle.std.specs.Prelude.{◌≡◌, ℕ, ◌<◌, List, Float}
 use Rattle.std.proofs.Common.{ap, ap₂, ◌∙◌}
 use Rattle.basics.specs.Paths.{ap₃, ap₄}
 use Rattle.noise_tables.specs.Row.{at}
-use Rattle.column.specs.Floats.{nat}
-use Rattle.column.specs.Column.{column_with, ridges_of, ridges₃₂, plateau₃₂, climate_of, relief_of}
+use Rattle.column.specs.Column.{with_climate, ridges_of, ridges₃₂, plateau₃₂, climate_of, relief_of}
 use Rattle.column.specs.declared.Relief.{Relief}
 use Rattle.column_rows.specs.Rows.{offset_row, scaled_row, continent_row, ClimateRows, HeightRows, RidgeRows, LowlandRows}
 use Rattle.column_read.specs.Read.{climate_in, relief_in}
@@ -13,7 +12,7 @@ pub climate_in_lem : (n : ℕ) (xs : List Float) (z : Float) (temp moisture : Li
     → (i : ℕ) → i < n → climate_in temp moisture i ≡ climate_of (at xs i) z
 unfolding climate_in climate_of offset_row
 climate_in_lem n xs z temp moisture r i h =
-    ap₂ (λ (t m : Float). column_with t m (nat 0) (nat 0) (nat 0) (nat 0) (nat 0) (nat 0) (nat 0) (nat 0)) (r.warm.holds i h) (r.wet.holds i h)
+    ap₂ with_climate (r.warm.holds i h) (r.wet.holds i h)
 
 abbrev relief : Float → Float → Float → Float → Float → Float → Float → Relief
 relief continent detail micro ridges plateau dune hill = record {

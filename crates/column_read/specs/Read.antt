@@ -1,14 +1,13 @@
 -- A column's climate and relief (SCOPE 4.2, 4.4), of the rows that hold their noise. Assumes nothing.
 use Rattle.std.specs.Prelude.{List, ℕ, Float}
 use Rattle.noise_tables.specs.Row.{at}
-use Rattle.column.specs.Floats.{nat}
-use Rattle.column.specs.Column.{plateau₃₂, ridges_of, column_with}
+use Rattle.column.specs.Column.{plateau₃₂, ridges_of, with_climate}
 use Rattle.column.specs.declared.Column.{Column}
 use Rattle.column.specs.declared.Relief.{Relief}
 
 -- at place i
 unfoldable pub climate_in : List Float → List Float → ℕ → Column
-climate_in temp moisture i = column_with (at temp i) (at moisture i) (nat 0) (nat 0) (nat 0) (nat 0) (nat 0) (nat 0) (nat 0) (nat 0)
+climate_in temp moisture i = with_climate (at temp i) (at moisture i)
 
 unfoldable pub relief_in : List Float → List Float → List Float → List Float → List Float → List Float → List Float → List Float → ℕ → Relief
 relief_in continent detail micro ridge1 ridge2 steps dune hill i = record {

@@ -1,63 +1,54 @@
 // A column's climate and relief, read from rows of noise.
 #![tactic(auto)]
 
-ghost use Rattle.std.specs.Prelude.{◌≡◌, ◌<◌, length};
+ghost use Rattle.std.specs.Prelude.{◌≡◌, ◌<◌};
 ghost use Rattle.column_read.specs.Read.{climate_in, relief_in};
 
-use column::{Column, Relief, plateau, ridges_of};
+use column::{Column, Relief, plateau, ridges_of, with_climate};
+use noise_tables::PLACES;
 
-// The climate at place i.
-pub fn climate_in(temp: &[f32], moisture: &[f32], i: usize) -> Column
-    requires { (i < 64) × (i < length temp.now) × (i < length moisture.now) }
-    ensures { result ≡ climate_in temp.now moisture.now i }
-{
-    Column {
-        temp: temp[i],
-        moisture: moisture[i],
-        dw: 0.0,
-        mw: 0.0,
-        fw: 0.0,
-        pw: 0.0,
-        desert_h: 0.0,
-        mountain_h: 0.0,
-        forest_h: 0.0,
-        plains_h: 0.0,
-    }
+// The noise of a row of columns, at each place.
+#[derive(Drop)]
+pub struct Noise {
+    pub temp: [f32; PLACES],
+    pub moisture: [f32; PLACES],
+    pub continent: [f32; PLACES],
+    pub detail: [f32; PLACES],
+    pub micro: [f32; PLACES],
+    pub ridge1: [f32; PLACES],
+    pub ridge2: [f32; PLACES],
+    pub steps: [f32; PLACES],
+    pub dune: [f32; PLACES],
+    pub hill: [f32; PLACES],
 }
 
-// The relief at place i.
-pub fn relief_in(
-    continent: &[f32],
-    detail: &[f32],
-    micro: &[f32],
-    ridge1: &[f32],
-    ridge2: &[f32],
-    steps: &[f32],
-    dune: &[f32],
-    hill: &[f32],
-    i: usize,
-) -> Relief
-    requires { (i < 64)
-        × (i < length continent.now)
-        × (i < length detail.now)
-        × (i < length micro.now)
-        × (i < length ridge1.now)
-        × (i < length ridge2.now)
-        × (i < length steps.now)
-        × (i < length dune.now)
-        × (i < length hill.now) }
-    ensures { result ≡ relief_in continent.now detail.now micro.now ridge1.now
-        ridge2.now steps.now dune.now hill.now i }
-{
-    let ridges = ridges_of(ridge1[i], ridge2[i]);
-    let plateau = plateau(steps[i]);
-    Relief {
-        continent: continent[i],
-        detail: detail[i],
-        micro: micro[i],
-        ridges,
-        plateau,
-        dune: dune[i],
-        hill_factor: hill[i],
+impl Noise {
+    // The climate at place i.
+    #[tactic(auto, unfolding(crate::specs::Read::climate_in))]
+    pub fn climate(&self, i: usize) -> Column
+        requires { i < 64 }
+        ensures { result ≡ climate_in self.now.temp self.now.moisture i }
+    {
+        with_climate(self.temp[i], self.moisture[i])
+    }
+
+    // The relief at place i.
+    #[tactic(auto, unfolding(crate::specs::Read::relief_in))]
+    pub fn relief(&self, i: usize) -> Relief
+        requires { i < 64 }
+        ensures { result ≡ relief_in self.now.continent self.now.detail self.now.micro self.now.ridge1
+            self.now.ridge2 self.now.steps self.now.dune self.now.hill i }
+    {
+        let ridges = ridges_of(self.ridge1[i], self.ridge2[i]);
+        let plateau = plateau(self.steps[i]);
+        Relief {
+            continent: self.continent[i],
+            detail: self.detail[i],
+            micro: self.micro[i],
+            ridges,
+            plateau,
+            dune: self.dune[i],
+            hill_factor: self.hill[i],
+        }
     }
 }

@@ -25,11 +25,8 @@ unfoldable pub continent_row : List Float → Float → ℕ → Float
 continent_row xs z i = continent₃₂ (at xs i) z
 
 -- the continent's coordinates, scaled, of the noise that warps them
-unfoldable pub warped_x : List Float → List Float → ℕ → Float
-warped_x xs l i = (at xs i +f at l i *f nat 40) *f nearest 4 1000
-
-unfoldable pub warped_z : Float → List Float → ℕ → Float
-warped_z z l i = (z +f at l i *f nat 40) *f nearest 4 1000
+unfoldable pub warped : List Float → List Float → ℕ → Float
+warped xs l i = (at xs i +f at l i *f nat 40) *f nearest 4 1000
 
 -- the noise of the climate, above the places xs of the row at z
 pub record ClimateRows (n : ℕ) (xs : List Float) (z : Float) (temp moisture : List Float) : Type 0 where

@@ -5,7 +5,7 @@
 ghost use Rattle.std.specs.Prelude.{◌≤◌, length};
 ghost use Rattle.noise_tables.specs.Row.{Row};
 ghost use Rattle.column_tables.specs.Coords.{Tabled};
-ghost use Rattle.column_rows.specs.Rows.{continent_row, warped_x, warped_z, ClimateBy, HeightRows, RidgeBy, LowlandBy};
+ghost use Rattle.column_rows.specs.Rows.{continent_row, warped, ClimateBy, HeightRows, RidgeBy, LowlandBy};
 
 use column_tables::{
     DETAIL, DUNE, HILL, MICRO, MOISTURE, RIDGE1, RIDGE2, STEPS, TEMP, WARP_X, WARP_Z,
@@ -37,27 +37,14 @@ const DUNE_AT: usize = DUNE * PLACES;
 
 const HILL_AT: usize = HILL * PLACES;
 
-// From the noise that warps x to the continent's scaled coordinate.
-fn warp_xs(xs: &[f32], n: usize, vals: &mut [f32])
-    requires { (n ≤ 64) × (n ≤ length xs.now) × (n ≤ length vals.old) }
-    ensures { Row n (warped_x xs.now vals.old) vals.new }
+// From the noise that warps a row of coordinates to the continent's, scaled.
+#[tactic(auto, unfolding(crate::specs::Rows::warped))]
+fn warp(at: &[f32], n: usize, vals: &mut [f32])
+    requires { (n ≤ 64) × (n ≤ length at.now) × (n ≤ length vals.old) }
+    ensures { Row n (warped at.now vals.old) vals.new }
 {
-    let mut i = 0;
-    while i < n {
-        vals[i] = (xs[i] + vals[i] * 40.0) * 0.004;
-        i += 1;
-    }
-}
-
-// The same for z, which is one for the row.
-fn warp_zs(z: f32, n: usize, vals: &mut [f32])
-    requires { (n ≤ 64) × (n ≤ length vals.old) }
-    ensures { Row n (warped_z z vals.old) vals.new }
-{
-    let mut i = 0;
-    while i < n {
-        vals[i] = (z + vals[i] * 40.0) * 0.004;
-        i += 1;
+    for (i, v) in vals[..n].iter_mut().enumerate() {
+        *v = (at[i] + *v * 40.0) * 0.004;
     }
 }
 
@@ -91,8 +78,8 @@ fn continent_row(xs: &[f32], z: f32, n: usize, floors: &[u32], eases: &[f32], va
         eases,
         &mut warp_z,
     );
-    warp_xs(xs, n, &mut warp_x);
-    warp_zs(z, n, &mut warp_z);
+    warp(xs, n, &mut warp_x);
+    warp(&[z; PLACES], n, &mut warp_z);
     fbm_places(&warp_x, &warp_z, 5, n, vals);
 }
 

@@ -6,7 +6,7 @@ ghost use Rattle.std.specs.Prelude.{◌≡◌};
 ghost use Rattle.column_shapes.specs.Shapes.{offset_fbm₃₂, scaled_fbm₃₂, smooth_ramp₃₂, ridge₃₂, ridges_of, ridges₃₂};
 ghost use Rattle.column_shapes.specs.Shapes.{plateau₃₂, continent₃₂, hill_boost₃₂, cold_boost₃₂, clamp_of};
 
-use noise::fbm2d;
+use noise::{fbm2d, smooth};
 use num_core::float::{abs, clamp, floor};
 
 pub fn offset_fbm(x: f32, z: f32, scale: f32, dx: f32, dz: f32, octaves: u32) -> f32
@@ -15,6 +15,7 @@ pub fn offset_fbm(x: f32, z: f32, scale: f32, dx: f32, dz: f32, octaves: u32) ->
     fbm2d(x * scale + dx, z * scale + dz, octaves)
 }
 
+// Not `offset_fbm` by 0.0: that sum would turn -0.0 into 0.0.
 pub fn scaled_fbm(x: f32, z: f32, scale: f32, octaves: u32) -> f32
     ensures { result ≡ scaled_fbm₃₂ x z scale octaves }
 {
@@ -25,8 +26,7 @@ pub fn scaled_fbm(x: f32, z: f32, scale: f32, octaves: u32) -> f32
 pub fn smooth_ramp(val: f32, edge: f32, width: f32) -> f32
     ensures { result ≡ smooth_ramp₃₂ val edge width }
 {
-    let t = clamp((val - edge) / width + 0.5, 0.0, 1.0);
-    t * t * (3.0 - 2.0 * t)
+    smooth(clamp((val - edge) / width + 0.5, 0.0, 1.0))
 }
 
 fn ridge(n: f32) -> f32
@@ -84,6 +84,7 @@ pub fn cold_boost(temp: f32) -> f32
     clamp((0.3 - temp) * 5.0, 0.0, 1.0)
 }
 
+// Where lo lies above hi, lo below lo and else hi: `i32::clamp` asks that lo is no greater, where this asks nothing.
 pub fn clamp_i32(n: i32, lo: i32, hi: i32) -> i32
     ensures { result ≡ clamp_of n lo hi }
 {

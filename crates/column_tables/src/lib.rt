@@ -3,9 +3,9 @@
 #![tactic(auto)]
 
 ghost use Rattle.std.specs.Prelude.{◌≡◌, ◌≤◌, ◌<◌, length};
-ghost use Rattle.noise_tables.specs.Row.{Row};
-ghost use Rattle.column_tables.specs.Coords.{climate_x, relief_x, lowland_x, column_coord, coords_of, Tabled};
+ghost use Rattle.column_tables.specs.Coords.{column_coord, Tabled};
 
+use noise_fill::fill_row;
 use noise_tables::{PLACES, note_octave, scaled};
 
 // The first octave of each noise: of temperature, moisture, the two that warp the continent, the detail, the finest, the
@@ -37,86 +37,34 @@ const OCTAVES: usize = 36;
 // How long the tables are.
 pub const TABLE: usize = OCTAVES * PLACES;
 
-// x as the octaves of the climate and of the continent's warp take it.
-fn climate_x(o: usize, x: f32) -> f32
-    ensures { result ≡ climate_x o x }
-{
-    if o < MOISTURE {
-        return scaled(o, x * 0.003 + 100.0);
-    }
-    if o < WARP_X {
-        return scaled(o - MOISTURE, x * 0.004 + -200.0);
-    }
-    if o < WARP_Z {
-        return scaled(o - WARP_X, x * 0.003 + 700.0);
-    }
-    scaled(o - WARP_Z, x * 0.003 + 900.0)
-}
-
-// The same of the detail, the finest and the ridges.
-fn relief_x(o: usize, x: f32) -> f32
-    requires { 14 ≤ o }
-    ensures { result ≡ relief_x o x }
-{
-    if o < MICRO {
-        return scaled(o - DETAIL, x * 0.025);
-    }
-    if o < RIDGE1 {
-        return scaled(o - MICRO, x * 0.08);
-    }
-    if o < RIDGE2 {
-        return scaled(o - RIDGE1, x * 0.008 + 500.0);
-    }
-    scaled(o - RIDGE2, x * 0.015 + 300.0)
-}
-
-// The same of the steps, the dunes and the hills.
-fn lowland_x(o: usize, x: f32) -> f32
-    requires { 27 ≤ o }
-    ensures { result ≡ lowland_x o x }
-{
-    if o < DUNE {
-        return scaled(o - STEPS, x * 0.006 + -400.0);
-    }
-    if o < HILL {
-        return scaled(o - DUNE, x * 0.02 + 50.0);
-    }
-    scaled(o - HILL, x * 0.01 + 150.0)
-}
-
+// Octave o's coordinate of x: scaled and moved as its field asks, and by the octave within that field.
 fn coord(o: usize, x: f32) -> f32
     ensures { result ≡ column_coord o x }
 {
-    if o < DETAIL {
-        return climate_x(o, x);
-    }
-    if o < STEPS {
-        return relief_x(o, x);
-    }
-    lowland_x(o, x)
-}
-
-fn fill_coords(o: usize, xs: &[f32], n: usize, ts: &mut [f32])
-    requires { (n ≤ 64) × (n ≤ length xs.now) × (n ≤ length ts.old) }
-    ensures { Row n (coords_of xs.now o) ts.new }
-{
-    let mut i = 0;
-    while i < n {
-        ts[i] = coord(o, xs[i]);
-        i += 1;
+    match o {
+        TEMP..MOISTURE => scaled(o, x * 0.003 + 100.0),
+        MOISTURE..WARP_X => scaled(o - MOISTURE, x * 0.004 + -200.0),
+        WARP_X..WARP_Z => scaled(o - WARP_X, x * 0.003 + 700.0),
+        WARP_Z..DETAIL => scaled(o - WARP_Z, x * 0.003 + 900.0),
+        DETAIL..MICRO => scaled(o - DETAIL, x * 0.025),
+        MICRO..RIDGE1 => scaled(o - MICRO, x * 0.08),
+        RIDGE1..RIDGE2 => scaled(o - RIDGE1, x * 0.008 + 500.0),
+        RIDGE2..STEPS => scaled(o - RIDGE2, x * 0.015 + 300.0),
+        STEPS..DUNE => scaled(o - STEPS, x * 0.006 + -400.0),
+        DUNE..HILL => scaled(o - DUNE, x * 0.02 + 50.0),
+        _ => scaled(o - HILL, x * 0.01 + 150.0),
     }
 }
 
 // Notes all octaves of n places.
+// (The other tables have a loop like this one: each has its own edit on it.)
 pub fn note_rows(xs: &[f32], n: usize, floors: &mut [u32], eases: &mut [f32])
     requires { (n ≤ 64) × (n ≤ length xs.now) × (2304 ≤ length floors.old) × (2304 ≤ length eases.old) }
     ensures { Tabled n xs.now floors.new eases.new }
 {
     let mut ts = [0.0f32; PLACES];
-    let mut o = 0;
-    while o < OCTAVES {
-        fill_coords(o, xs, n, &mut ts);
+    for o in 0..OCTAVES {
+        fill_row(n, |i| coord(o, xs[i]), &mut ts);
         note_octave(&ts, o * PLACES, n, floors, eases);
-        o += 1;
     }
 }

@@ -7,6 +7,7 @@ ghost use Rattle.ground_cell.specs.World.{Tall, Near};
 ghost use Rattle.ground_cell.specs.Base.{column_height, column_biome};
 ghost use Rattle.column_tops_row.specs.Tops.{RowTabled, note_at};
 
+use column_read::Noise;
 use column_rows::{climate_rows, height_rows, lowland_rows, ridge_rows};
 use column_tables::note_rows;
 use column_tops_row::{note_xs, put_row};
@@ -35,26 +36,42 @@ fn note_row(
         × (biomes.new ≡ steps o.size (note_at (column_biome w o) (z * o.size)) biomes.old) }
 {
     let n = o.size;
-    let mut temp = [0.0f32; PLACES];
-    let mut moisture = [0.0f32; PLACES];
-    let mut land = [0.0f32; PLACES];
-    let mut detail = [0.0f32; PLACES];
-    let mut micro = [0.0f32; PLACES];
-    let mut ridge1 = [0.0f32; PLACES];
-    let mut ridge2 = [0.0f32; PLACES];
-    let mut flat = [0.0f32; PLACES];
-    let mut dune = [0.0f32; PLACES];
-    let mut hill = [0.0f32; PLACES];
+    let mut noise = Noise {
+        temp: [0.0; PLACES],
+        moisture: [0.0; PLACES],
+        continent: [0.0; PLACES],
+        detail: [0.0; PLACES],
+        micro: [0.0; PLACES],
+        ridge1: [0.0; PLACES],
+        ridge2: [0.0; PLACES],
+        steps: [0.0; PLACES],
+        dune: [0.0; PLACES],
+        hill: [0.0; PLACES],
+    };
     let wz = along(o.oz, z);
     let v = of_i32(wz) + w.seed_offset;
-    climate_rows(v, n, floors, eases, &mut temp, &mut moisture);
-    height_rows(xs, v, n, floors, eases, &mut land, &mut detail, &mut micro);
-    ridge_rows(v, n, floors, eases, &mut ridge1, &mut ridge2);
-    lowland_rows(v, n, floors, eases, &mut flat, &mut dune, &mut hill);
-    put_row(
-        w, o, z, &temp, &moisture, &land, &detail, &micro, &ridge1, &ridge2, &flat, &dune, &hill,
-        heights, biomes,
+    climate_rows(v, n, floors, eases, &mut noise.temp, &mut noise.moisture);
+    height_rows(
+        xs,
+        v,
+        n,
+        floors,
+        eases,
+        &mut noise.continent,
+        &mut noise.detail,
+        &mut noise.micro,
     );
+    ridge_rows(v, n, floors, eases, &mut noise.ridge1, &mut noise.ridge2);
+    lowland_rows(
+        v,
+        n,
+        floors,
+        eases,
+        &mut noise.steps,
+        &mut noise.dune,
+        &mut noise.hill,
+    );
+    put_row(w, o, z, &noise, heights, biomes);
 }
 
 // Notes the tops of every row.
@@ -75,11 +92,8 @@ fn note_each(
     ensures { (heights.new ≡ tab (o.size * o.size) (column_height w o) ++ drop (o.size * o.size) heights.old)
         × (biomes.new ≡ tab (o.size * o.size) (column_biome w o) ++ drop (o.size * o.size) biomes.old) }
 {
-    let size = o.size;
-    let mut z = 0;
-    while z < size {
+    for z in 0..o.size {
         note_row(w, o, z, xs, floors, eases, heights, biomes);
-        z += 1;
     }
 }
 

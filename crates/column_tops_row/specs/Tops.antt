@@ -6,6 +6,7 @@ use Rattle.column.specs.declared.Surface.{Surface}
 use Rattle.noise_tables.specs.Row.{Row}
 use Rattle.column_tables.specs.Coords.{Tabled}
 use Rattle.column_read.specs.Read.{climate_in, relief_in}
+use Rattle.column_read.specs.declared.Noise.{Noise}
 use Rattle.ground_cell.specs.World.{biome_number, top_with}
 use Rattle.ground_cell.specs.declared.world.World.{World}
 use Rattle.ground_cell.specs.declared.world.Frame.{Frame}
@@ -30,19 +31,10 @@ pub record RowTabled (w : World) (o : Frame) (xs : List Float) (floors : List �
   pub longer : 2304 ≤ length eases
 
 -- rows that hold the noise of the columns at z
-pub record RowNoise (w : World) (o : Frame) (z : ℕ) (temp moisture continent detail micro ridge1 ridge2 steps dune hill : List Float) : Type 0 where
-  pub climates : (i : ℕ) → i < o.size → climate_in temp moisture i ≡ climate_of (x_at w o i) (z_at w o z)
-  pub reliefs : (i : ℕ) → i < o.size → relief_in continent detail micro ridge1 ridge2 steps dune hill i ≡ relief_of (x_at w o i) (z_at w o z)
-  pub long0 : o.size ≤ length temp
-  pub long1 : o.size ≤ length moisture
-  pub long2 : o.size ≤ length continent
-  pub long3 : o.size ≤ length detail
-  pub long4 : o.size ≤ length micro
-  pub long5 : o.size ≤ length ridge1
-  pub long6 : o.size ≤ length ridge2
-  pub long7 : o.size ≤ length steps
-  pub long8 : o.size ≤ length dune
-  pub long9 : o.size ≤ length hill
+pub record RowNoise (w : World) (o : Frame) (z : ℕ) (k : Noise) : Type 0 where
+  pub climates : (i : ℕ) → i < o.size → climate_in k.temp k.moisture i ≡ climate_of (x_at w o i) (z_at w o z)
+  pub reliefs : (i : ℕ) → i < o.size
+      → relief_in k.continent k.detail k.micro k.ridge1 k.ridge2 k.steps k.dune k.hill i ≡ relief_of (x_at w o i) (z_at w o z)
 
 -- one column more of a row that begins at column m
 unfoldable pub note_at : (ℕ → ℕ) → ℕ → ℕ → List ℕ → List ℕ

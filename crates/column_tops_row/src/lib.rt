@@ -11,7 +11,7 @@ ghost use Rattle.ground_cell.specs.Base.{column_height, column_biome};
 ghost use Rattle.column_tops_row.specs.Tops.{surface_top, x_at, RowNoise, note_at};
 
 use column::{Column, Relief, surface_of};
-use column_read::{climate_in, relief_in};
+use column_read::Noise;
 use ground_cell::world::{Frame, Top, World, along, biome_number};
 use num_core::float::of_i32;
 
@@ -36,53 +36,28 @@ pub fn note_xs(w: World, o: Frame, xs: &mut [f32])
     requires { Near o × (o.size ≤ length xs.old) }
     ensures { Row o.size (x_at w o) xs.new }
 {
-    let n = o.size;
-    let mut i = 0;
-    while i < n {
+    for (i, x) in xs[..o.size].iter_mut().enumerate() {
         let wx = along(o.ox, i);
-        xs[i] = of_i32(wx) + w.seed_offset;
-        i += 1;
+        *x = of_i32(wx) + w.seed_offset;
     }
 }
 
-// Notes the tops of row z, by the noise that the ten rows hold.
-pub fn put_row(
-    w: World,
-    o: Frame,
-    z: usize,
-    temp: &[f32],
-    moisture: &[f32],
-    continent: &[f32],
-    detail: &[f32],
-    micro: &[f32],
-    ridge1: &[f32],
-    ridge2: &[f32],
-    flat: &[f32],
-    dune: &[f32],
-    hill: &[f32],
-    heights: &mut [u16],
-    biomes: &mut [u8],
-)
+// Notes the tops of row z, by its noise.
+pub fn put_row(w: World, o: Frame, z: usize, noise: &Noise, heights: &mut [u16], biomes: &mut [u8])
     requires { Tall w
         × Near o
         × (z < o.size)
-        × RowNoise w o z temp.now moisture.now continent.now detail.now micro.now ridge1.now ridge2.now flat.now dune.now hill.now
+        × RowNoise w o z noise.now
         × (o.size * o.size ≤ length heights.old)
         × (o.size * o.size ≤ length biomes.old) }
     ensures { (heights.new ≡ steps o.size (note_at (column_height w o) (z * o.size)) heights.old)
         × (biomes.new ≡ steps o.size (note_at (column_biome w o) (z * o.size)) biomes.old) }
 {
     let m = z * o.size;
-    let mut x = 0;
-    while x < o.size {
-        let climate = climate_in(temp, moisture, x);
-        let relief = relief_in(
-            continent, detail, micro, ridge1, ridge2, flat, dune, hill, x,
-        );
-        let t = top_of(w, climate, relief);
+    for x in 0..o.size {
+        let t = top_of(w, noise.climate(x), noise.relief(x));
         let k = m + x;
         heights[k] = t.height;
         biomes[k] = t.biome;
-        x += 1;
     }
 }

@@ -1,6 +1,8 @@
 -- What a call answers (SCOPE 1.4, 10.1), and what it leaves of the cells. Assumes nothing.
-use Rattle.std.specs.Prelude.{◌≡◌, refl, ℕ, zero, suc, List}
-use Rattle.std.proofs.Common.{arith}
+use Rattle.std.specs.Prelude.{◌≡◌, refl, ℕ, zero, suc, List, Result, Ok, Err}
+use Rattle.std.proofs.Common.{arith, sym, ◌∙◌, ap}
+use Rattle.config.specs.Numbers.{number_of, number_some, number_same}
+use Rattle.config.specs.declared.refusals.Refusal.{Refusal}
 
 -- the values of what is accepted, or a refusal's number and line; the two are never one value, whatever the number
 pub data Answer : Type 0 where
@@ -25,6 +27,23 @@ not_refused n good bad e = rw e
 pub is_refused : {A : Type 0} (n : ℕ) (good : A) (bad : ℕ → A) → (n ≡ 0 → ⊥) → unless_refused n good bad ≡ bad n
 is_refused zero good bad e = absurd (e refl)
 is_refused (suc n) good bad e = refl
+
+-- what a call's result says, by the values that it tells where it is accepted
+abbrev pub says : {A : Type 0} → (A → List ℕ) → Result A Refusal → Answer
+says values (Ok a) = accepted (values a)
+says values (Err r) = refused_with (number_of r)
+
+-- SCOPE 1.4: results that say the same are the same, where values that are told are
+pub says_same : {A : Type 0} (values : A → List ℕ) → ((a b : A) → values a ≡ values b → a ≡ b)
+    → (a b : Result A Refusal) → says values a ≡ says values b → a ≡ b
+says_same values same (Ok a) (Ok b) e = let q : values a ≡ values b = cc in ap Ok (same a b q)
+says_same values same (Ok a) (Err r) e = absurd (never_both (values a) (number_of r) 0 e)
+says_same values same (Err r) (Ok b) e = absurd (never_both (values b) (number_of r) 0 (sym e))
+says_same values same (Err r) (Err t) e = let q : number_of r ≡ number_of t = cc in ap Err (number_same r t q)
+
+-- a refusal that a test's number gives
+pub is_refused_by : {A : Type 0} (r : Refusal) (n : ℕ) (good : A) (bad : ℕ → A) → number_of r ≡ n → unless_refused n good bad ≡ bad (number_of r)
+is_refused_by r n good bad e = is_refused n good bad (λ q. number_some r (e ∙ q)) ∙ ap bad (sym e)
 
 -- ---- a call that changes cells
 

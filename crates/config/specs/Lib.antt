@@ -1,4 +1,5 @@
 pub mod Refusals
+pub mod Numbers
 pub mod Limits
 pub mod Seeds
 pub mod Answers

@@ -1,17 +1,18 @@
-// The settings of the ground, the place of a chunk and their limits; limits and refusal numbers by name.
+// The settings of the ground, the place of a chunk and their limits; limits by name, and why a call is refused.
 #![tactic(auto)]
 
 ghost use Rattle.std.specs.Prelude.{◌≡◌, true, ◌<◌};
 ghost use Rattle.config.specs.Limits.{within, size_ok, place_ok, places_ok, limit_refusal, config_header, Narrow};
+ghost use Rattle.config.specs.Numbers.{refusal_in};
 ghost use Rattle.std.specs.Int.Signed.{mag};
 
 pub mod bounds;
-pub mod refusals;
+mod refusals;
 
 use crate::bounds::{
     HEIGHT_LEAST, HEIGHT_MOST, PLACE_LEAST, PLACE_MOST, SEA_LEAST, SEA_MOST, SEED_MOST, SIZE_MOST,
 };
-use crate::refusals::{OK, PLACE, SEA_LEVEL, SEED, SIZE, WORLD_HEIGHT};
+pub use crate::refusals::{Refusal, Refused};
 
 // As in the Rust; the limits are narrower (SCOPE 2.1).
 #[repr(C)]
@@ -74,33 +75,37 @@ fn places_fit(h: Header) -> bool
     x & y & z
 }
 
-// The number of the first limit that the seven numbers break, or 0.
-pub fn limits(h: Header) -> u32
+// The refusal of the first limit that the seven numbers break.
+pub fn limits(h: Header) -> Result<(), Refusal>
     requires { Narrow h }
-    ensures { result ≡ limit_refusal h }
+    ensures { refusal_in result ≡ limit_refusal h }
 {
     if !in_range(1, h.chunk_size, SIZE_TOP) {
-        return SIZE;
+        return Err(Refusal::Size);
     }
     if !in_range(0, h.seed, SEED_MOST) {
-        return SEED;
+        return Err(Refusal::Seed);
     }
     if !in_range(SEA_LEAST, h.sea_level, SEA_MOST) {
-        return SEA_LEVEL;
+        return Err(Refusal::SeaLevel);
     }
     if !in_range(HEIGHT_LEAST, h.world_height_blocks, HEIGHT_MOST) {
-        return WORLD_HEIGHT;
+        return Err(Refusal::WorldHeight);
     }
-    if places_fit(h) { OK } else { PLACE }
+    if places_fit(h) {
+        Ok(())
+    } else {
+        Err(Refusal::Place)
+    }
 }
 
 // The same for settings and a place. A size that i64 does not hold is refused before it is converted.
-pub fn config_limits(config: TerrainConfig, pos: ChunkPos) -> u32
-    ensures { result ≡ limit_refusal (config_header config pos) }
+pub fn config_limits(config: TerrainConfig, pos: ChunkPos) -> Result<(), Refusal>
+    ensures { refusal_in result ≡ limit_refusal (config_header config pos) }
 {
     let size = config.chunk_size;
     if size > SIZE_MOST {
-        return SIZE;
+        return Err(Refusal::Size);
     }
     limits(Header {
         seed: config.seed as i64,

@@ -7,7 +7,7 @@ use Rattle.std.proofs.Math.ListN.{get_or-append}
 use Rattle.std.proofs.lemmas.List.{set_at, get_or_at}
 use Rattle.std.proofs.Math.Arith.{digits_lt, digits_div, digits_mod}
 use borrow.Author.Tests.{ltb-true, lt-ltb, le-ltb}
-use Rattle.grid.specs.Cube.{cell_index, inside, put_at, see_at, tab, all_of, steps, col_of}
+use Rattle.grid.specs.Cube.{Cube, cell_index, inside, put_at, see_at, tab, all_of, steps, col_of}
 
 -- an index by its digits to the base size
 pub digits : (s x y z : ℕ) → cell_index s x y z ≡ (z * s + y) * s + x
@@ -43,6 +43,9 @@ square_most s h = mul-le-mul h h
 
 pub cube_most : (s : ℕ) → s ≤ 64 → s * s * s ≤ 262144
 cube_most s h = mul-le-mul (mul-le-mul h h) h
+
+-- no chunk's number of cells overflows
+pub ruleset cube = (square_most, cube_most)
 
 pub tab_length : (n : ℕ) (f : ℕ → ℕ) → length (tab n f) ≡ n
 unfolding tab
@@ -139,6 +142,10 @@ inside_true size x y z e = at (ltb x size) refl (ltb y size) refl (ltb z size) r
     at true p true q false r e = absurd (subst T (sym e) tt)
     at true p false q d r e = absurd (subst T (sym e) tt)
     at false p b q d r e = absurd (subst T (sym e) tt)
+
+-- its place in the slice, and how long the slice is
+pub index_below : {s x y z : ℕ} {c : List ℕ} → Cube s c → Inside s x y z → (cell_index s x y z < length c) × (length c ≤ 262144)
+index_below h k = let l = index_lt _ _ _ _ k.x_in k.y_in k.z_in in let m = cube_most _ h.most in let e = h.all in (omega arith, omega arith)
 
 pub put_inside : (s x y z v : ℕ) (c : List ℕ) → Inside s x y z → put_at s x y z v c ≡ set c (cell_index s x y z) v
 unfolding put_at

@@ -27,11 +27,7 @@ pub fn copy_slab(cells: &[u16], start: usize, n: usize, old: &mut [u16])
     requires { (start + n ≤ length cells.now) × (n ≤ length old.old) }
     ensures { take n old.new ≡ take n (drop start cells.now) }
 {
-    let mut i = 0;
-    while i < n {
-        old[i] = cells[start + i];
-        i += 1;
-    }
+    old[..n].copy_from_slice(&cells[start..start + n]);
 }
 
 // One block in every cell of slab z; all else stays.
@@ -41,11 +37,7 @@ pub fn fill_slab(cells: &mut [u16], size: usize, z: usize, id: u16)
 {
     let square = size * size;
     let start = z * square;
-    let mut i = 0;
-    while i < square {
-        cells[start + i] = id;
-        i += 1;
-    }
+    cells[start..start + square].fill(id);
 }
 
 // Compares the n cells from start on with those kept.
@@ -56,12 +48,9 @@ pub fn compare_slab(old: &[u16], cells: &[u16], start: usize, n: usize) -> SlabC
 {
     let mut altered: usize = 0;
     let mut count: usize = 0;
-    let mut i = 0;
-    while i < n {
-        let v = cells[start + i];
-        altered += grid::apart(old[i], v);
-        count += grid::non_air(v) as usize;
-        i += 1;
+    for (kept, cell) in old[..n].iter().zip(&cells[start..start + n]) {
+        altered += grid::apart(*kept, *cell);
+        count += grid::non_air(*cell) as usize;
     }
     SlabChange { altered, count }
 }

@@ -1,18 +1,16 @@
 -- The ground of a chunk, and what `generate` does (SCOPE 4.15). Assumes nothing.
-use Rattle.std.specs.Prelude.{◌≡◌, ℕ, ◌*◌, List, [], ◌∷◌, length, ℤ, pos, ◌-ℤ◌, ◌*ℤ◌, ◌==◌, Float}
-use Rattle.std.proofs.Common.{sym, ap}
+use Rattle.std.specs.Prelude.{◌≡◌, ℕ, ◌*◌, List, [], ◌∷◌, length, Result, ℤ, pos, ◌-ℤ◌, ◌*ℤ◌, ◌==◌, Float}
 use Rattle.column.specs.Floats.{◌*f◌, nat, real}
 use Rattle.config.specs.Refusals.{must, passed, refusal}
 use Rattle.config.specs.Limits.{limit_refusal, config_header}
-use Rattle.config.specs.Answers.{Answer, accepted, refused_with, never_both, CellsOutcome, done}
+use Rattle.config.specs.Answers.{Answer, says, says_same, CellsOutcome, done}
+use Rattle.config.specs.declared.refusals.Refusal.{Refusal}
 use Rattle.config.specs.declared.TerrainConfig.{TerrainConfig}
 use Rattle.config.specs.declared.ChunkPos.{ChunkPos}
 use Rattle.grid.specs.Count.{non_air_count}
 use Rattle.ground_cell.specs.declared.world.World.{World}
 use Rattle.ground_cell.specs.declared.world.Frame.{Frame}
 unfoldable pub use Rattle.ground_chunk.specs.Laid.{ground_in}
-use Rattle.ground.specs.declared.Generated.{Generated}
-use Rattle.ground.specs.declared.Generated.TheVariants.{Count, Refused}
 
 -- SCOPE 4.1: the seed moves the coordinates by 1,000 a step; 4.6: the greatest height is one below the world's
 abbrev pub world_with : Float → ℤ → ℤ → World
@@ -36,17 +34,19 @@ unfoldable pub generate_refusal : TerrainConfig → ChunkPos → ℕ → ℕ
 generate_refusal s p n = refusal (passed (limit_refusal (config_header s p)) ∷ must (n == s.chunk_size * s.chunk_size * s.chunk_size) 6 ∷ [])
 
 -- the count
-abbrev pub says_generated : Generated → Answer
-says_generated (Count n) = accepted (n ∷ [])
-says_generated (Refused k) = refused_with k
+abbrev count_told : ℕ → List ℕ
+count_told n = n ∷ []
+
+abbrev pub says_generated : Result ℕ Refusal → Answer
+says_generated = says count_told
 
 -- the cells become the ground and the answer is their count; a refusal leaves them as they came
 unfoldable pub generate_does : TerrainConfig → ChunkPos → List ℕ → CellsOutcome
 generate_does s p c = done (generate_refusal s p (length c)) (non_air_count (ground s p) ∷ []) c (ground s p)
 
 -- answers that say the same are the same
-pub same_generated : (a b : Generated) → says_generated a ≡ says_generated b → a ≡ b
-same_generated (Count m) (Count n) e = let q : m ≡ n = cc in ap Count q
-same_generated (Count m) (Refused n) e = absurd (never_both (m ∷ []) n 0 e)
-same_generated (Refused m) (Count n) e = absurd (never_both (n ∷ []) m 0 (sym e))
-same_generated (Refused m) (Refused n) e = let q : m ≡ n = cc in ap Refused q
+pub same_generated : (a b : Result ℕ Refusal) → says_generated a ≡ says_generated b → a ≡ b
+same_generated = says_same count_told same_count
+  where
+    same_count : (m n : ℕ) → count_told m ≡ count_told n → m ≡ n
+    same_count m n e = cc

@@ -5,19 +5,12 @@ ghost use Rattle.std.specs.Prelude.{◌≡◌, ◌≤◌, pos, ◌*ℤ◌};
 ghost use Rattle.std.specs.Int.Signed.{mag};
 ghost use Rattle.config.specs.Limits.{Between, Fine};
 ghost use Rattle.config.specs.Answers.{cells_outcome};
+ghost use Rattle.config.specs.Numbers.{refusal_in};
 ghost use Rattle.ground.specs.Ground.{world_of, frame_of, generate_refusal, says_generated, generate_does};
 
-use config::refusals::{LENGTH, OK};
-use config::{ChunkPos, TerrainConfig, config_limits};
+use config::{ChunkPos, Refusal, TerrainConfig, config_limits};
 use ground_cell::world::{Frame, World};
 use ground_chunk::lay_chunk;
-
-// The number of cells that are not air, or the number of the refusal.
-#[derive(Drop)]
-pub enum Generated {
-    Count(u32),
-    Refused(u32),
-}
 
 // The first cell of a chunk along an axis.
 fn origin(size: usize, c: i32) -> i32
@@ -53,31 +46,26 @@ pub fn frame_of(config: TerrainConfig, pos: ChunkPos) -> Frame
     Frame { ox, oy, oz, size }
 }
 
-// The number of the first refusal, or 0; n is the length of the cells.
-fn refusal_of(config: TerrainConfig, pos: ChunkPos, n: usize) -> u32
-    ensures { result ≡ generate_refusal config pos n }
+// The first refusal; n is the length of the cells.
+fn refusal_of(config: TerrainConfig, pos: ChunkPos, n: usize) -> Result<(), Refusal>
+    ensures { refusal_in result ≡ generate_refusal config pos n }
 {
-    let f = config_limits(config, pos);
-    if f != OK {
-        return f;
-    }
+    config_limits(config, pos)?;
     let size = config.chunk_size;
-    if n == size * size * size {
-        return OK;
+    if n != size * size * size {
+        return Err(Refusal::Length);
     }
-    LENGTH
+    Ok(())
 }
 
-// Lays the ground of a chunk into borrowed cells.
-pub fn generate(config: TerrainConfig, pos: ChunkPos, cells: &mut [u16]) -> Generated
+// Lays the ground of a chunk into borrowed cells, and answers how many of them are not air.
+#[tactic(auto, using(config::specs::Answers::is_refused_by), unfolding(crate::specs::Ground::generate_does))]
+pub fn generate(config: TerrainConfig, pos: ChunkPos, cells: &mut [u16]) -> Result<u32, Refusal>
     ensures { cells_outcome (says_generated result) cells.new ≡ generate_does config pos cells.old }
 {
-    let f = refusal_of(config, pos, cells.len());
-    if f != OK {
-        return Generated::Refused(f);
-    }
+    refusal_of(config, pos, cells.len())?;
     let w = world_of(config);
     let o = frame_of(config, pos);
     let count = lay_chunk(w, o, cells);
-    Generated::Count(count as u32)
+    Ok(count as u32)
 }

@@ -42,12 +42,10 @@ fn lay_rows(
         × Cube o.size cells.old }
     ensures { LaidLines w o (first * o.size) (last * o.size) cells.old cells.new }
 {
-    let mut z = first;
-    while z < last {
+    for z in first..last {
         lay_row(
             w, o, z, heights, biomes, floors, eases, edges, cuts, flags, cells,
         );
-        z += 1;
     }
 }
 

@@ -7,6 +7,7 @@ ghost use Rattle.ground_blocks.specs.Blocks.{desert_block, snow_patch, mountain_
 use column::Biome;
 use num_core::wrap::wrapping_mul;
 
+// Numbers and not an enum: a cell is a u16 in the C interface, and each u16 is a block there.
 pub const AIR: u16 = 0;
 
 pub const STONE: u16 = 1;
@@ -108,6 +109,7 @@ fn plains(depth: i64, height: i32, sea_level: i32) -> u16
     }
 }
 
+#[tactic(auto, unfolding(crate::specs::Blocks::select_block))]
 pub fn select_block(biome: Biome, wy: i32, height: i32, sea_level: i32) -> u16
     ensures { result ≡ select_block biome wy height sea_level }
 {

@@ -5,23 +5,14 @@ use native.Mathlib.Omega.{arith}
 use mathlib.Core.Bool.{true, false}
 use lib.Dec.{T}
 use lib.IntN.{ℤ, pos, negsuc, nat_abs}
-use lib.Signed.{mag, lt_z, non_neg}
-use mir.Syntax.{w32, w64}
-use mir.Val.{Fits}
+use lib.Signed.{mag, lt_z}
+use mir.Syntax.{w32}
 use mir.ValLaws.{to_z-of_z}
 use borrow.Author.Tests.{ltb-true}
-use Rattle.ground_cell.proofs.Signed.{up}
 use Rattle.basics.specs.Words.{again}
 use Rattle.ground_boulders.specs.Signs.{range_length}
 
 -- an i32 as a count: 0 where it is negative
-pub floor_cast : (z : ℤ) → mag z < 2 ^ 31 → lt_z (again w32 z) (pos 0) ≡ false → T (non_neg (again w32 z)) × Fits w64 (nat_abs (again w32 z))
-floor_cast z h e =
-    subst (λ (u : ℤ). T (non_neg u) × Fits w64 (nat_abs u)) (sym b) (up 0 z (record { sfits = omega arith }) (subst (λ (u : ℤ). lt_z u (pos 0) ≡ false) b e)).0
-  where
-    b : again w32 z ≡ z
-    b = to_z-of_z w32 z (record { sfits = h })
-
 pub floor_none : (z : ℤ) → mag z < 2 ^ 31 → lt_z (again w32 z) (pos 0) ≡ true → 0 ≡ range_length z
 floor_none z h e = go z (subst (λ (u : ℤ). lt_z u (pos 0) ≡ true) (to_z-of_z w32 z (record { sfits = h })) e)
   where

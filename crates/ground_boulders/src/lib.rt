@@ -3,6 +3,7 @@
 
 ghost use Rattle.std.specs.Prelude.{true, ◌≡◌, ◌+◌, ◌*◌, ◌≤◌, ◌<◌, length};
 ghost use Rattle.std.specs.Int.Signed.{mag};
+ghost use Rattle.num_core.specs.Wrap.{add_w, mul_w};
 ghost use Rattle.grid.specs.Cube.{Cube};
 ghost use Rattle.ground_cell.specs.World.{Near};
 ghost use Rattle.ground_boulders.specs.Signs.{plus, whole_part};
@@ -17,6 +18,7 @@ use num_core::float::to_i32;
 use num_core::wrap::{wrapping_add, wrapping_mul};
 
 // Whether a column is at least m away from the chunk's rim.
+#[tactic(auto, unfolding(crate::specs::Boulders::inset_in))]
 pub fn inset(m: usize, size: usize, x: usize, z: usize) -> bool
     requires { (m < 64) × (x < 65536) × (z < 65536) }
     ensures { result ≡ inset_in m size x z }
@@ -46,24 +48,28 @@ pub fn pillar(
     requires { Cube size cells.old × (mag oy ≤ 1000000) × (y + n < 8589934592) }
     ensures { cells.new ≡ pillar_of size oy x z y n v cells.old }
 {
-    let mut j = 0;
-    while j < n {
+    for j in 0..n {
         let ly = local_y(oy, y + j, size);
         put(cells, size, x, ly, z, v);
-        j += 1;
     }
 }
 
+// A coordinate as the hash of a place takes it, so that those of boulders and of trees differ.
+pub fn spread(w: i32, factor: i32, offset: i32) -> i32
+    ensures { result ≡ add_w (mul_w w factor) offset }
+{
+    wrapping_add(wrapping_mul(w, factor), offset)
+}
+
+#[tactic(auto, unfolding(crate::specs::Boulders::boulder_hash))]
 fn boulder_hash(wx: i32, wz: i32) -> f32
     ensures { result ≡ boulder_hash wx wz }
 {
-    hash2(
-        wrapping_add(wrapping_mul(wx, 31), 555),
-        wrapping_add(wrapping_mul(wz, 37), 777),
-    )
+    hash2(spread(wx, 31, 555), spread(wz, 37, 777))
 }
 
 // A boulder where the column is a mountain's and its hash is low: 2 to 5 blocks, by the code and not its comment.
+#[tactic(auto, unfolding(crate::specs::Boulders::place_boulder))]
 fn boulder_at(cells: &mut [u16], size: usize, oy: i32, t: Top, x: usize, z: usize, h: f32)
     requires { Cube size cells.old × (mag oy ≤ 1000000) × (t.height < 65536) × (plus h ≡ true) }
     ensures { cells.new ≡ place_boulder size oy t x z h cells.old }
@@ -80,6 +86,7 @@ fn boulder_at(cells: &mut [u16], size: usize, oy: i32, t: Top, x: usize, z: usiz
     pillar(cells, size, oy, x, z, y, n, STONE);
 }
 
+#[tactic(auto, unfolding(crate::specs::Boulders::boulder_column))]
 fn boulder_column(cells: &mut [u16], o: Frame, t: Top, x: usize, z: usize)
     requires { Cube o.size cells.old × Near o × (t.height < 65536) × (x < o.size) × (z < o.size) }
     ensures { cells.new ≡ boulder_column o t x z cells.old }
@@ -114,16 +121,14 @@ pub fn place_boulders(
         ≡ over_rows o.size first last (boulder_step o (top_in heights.now biomes.now)) cells.old }
 {
     let size = o.size;
-    let from = first * size;
-    let n = (last - first) * size;
-    let mut j = 0;
-    while j < n {
-        let k = from + j;
-        let t = Top {
-            height: heights[k],
-            biome: biomes[k],
-        };
-        boulder_column(cells, o, t, k % size, k / size);
-        j += 1;
+    for z in first..last {
+        for x in 0..size {
+            let k = z * size + x;
+            let t = Top {
+                height: heights[k],
+                biome: biomes[k],
+            };
+            boulder_column(cells, o, t, x, z);
+        }
     }
 }

@@ -39,6 +39,7 @@ pub fn along(o: i32, n: usize) -> i32
 }
 
 // Where level y lies in a chunk that begins at o; size says that it is below.
+#[tactic(auto, unfolding(crate::specs::World::local_y))]
 pub fn local_y(o: i32, y: usize, size: usize) -> usize
     requires { (mag o ≤ 1000000) × (y < 8589934592) }
     ensures { result ≡ local_y size o (pos y) }
@@ -47,7 +48,7 @@ pub fn local_y(o: i32, y: usize, size: usize) -> usize
     if d < 0 { size } else { d as usize }
 }
 
-// The numbers of the biomes.
+// The numbers of the biomes, as the caches hold them: `column_biome`, `place_boulder` and `tree_grows` of specs/ speak of these.
 pub const DESERT: u8 = 0;
 
 pub const MOUNTAIN: u8 = 1;
@@ -67,22 +68,20 @@ pub fn biome_number(b: Biome) -> u8
     }
 }
 
+#[tactic(auto, unfolding(crate::specs::World::biome_numbered))]
 fn biome_numbered(n: u8) -> Biome
     ensures { result ≡ biome_numbered n }
 {
-    if n == DESERT {
-        return Biome::Desert;
+    match n {
+        DESERT => Biome::Desert,
+        MOUNTAIN => Biome::Mountain,
+        FOREST => Biome::Forest,
+        _ => Biome::Plains,
     }
-    if n == MOUNTAIN {
-        return Biome::Mountain;
-    }
-    if n == FOREST {
-        return Biome::Forest;
-    }
-    Biome::Plains
 }
 
 // Below the surface: caves, and else the biome's block.
+#[tactic(auto, unfolding(crate::specs::World::ground_cell))]
 fn ground_cell(b: Biome, wy: i32, h: u16, sea_level: i32, hollow: bool) -> u16
     ensures { result ≡ ground_cell (lt_z (pos 0) wy && lt_z wy (pos h -ℤ pos 1)) hollow b wy (pos h) sea_level }
 {
@@ -94,6 +93,7 @@ fn ground_cell(b: Biome, wy: i32, h: u16, sea_level: i32, hollow: bool) -> u16
 }
 
 // A cell of a column with this top; hollow says whether a cave is there, where its level admits one.
+#[tactic(auto, unfolding(crate::specs::World::cell_with, crate::specs::World::column_cell))]
 pub fn cell(t: Top, sea_level: i32, wy: i32, hollow: bool) -> u16
     requires { t.height < 65536 }
     ensures { result ≡ cell_with t sea_level wy hollow }

@@ -18,4 +18,5 @@ diff_fits i r h k = record { sfits = (let g = less_mag i (pos r) in omega arith)
 pub layer_level : (top l : ℕ) → 1 ≤ top → pos (top + l - 1) ≡ pos top +ℤ (pos l -ℤ pos 1)
 layer_level top zero h =
     ap pos (let e : top + 0 - 1 ≡ top - 1 = omega arith in e) ∙ sym (one_less top h)
-layer_level top (suc l) h = ap pos (let e : top + suc l - 1 ≡ top + l = omega arith in e) ∙ ap (λ (z : ℤ). pos top +ℤ z) (sym (sub_at_least (suc l) 1 l (omega arith)))
+layer_level top (suc l) h =
+    ap pos (let e : top + suc l - 1 ≡ top + l = omega arith in e) ∙ ap (λ (z : ℤ). pos top +ℤ z) (sym (sub_at_least (suc l) 1 l (omega arith)))

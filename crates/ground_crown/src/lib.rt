@@ -37,6 +37,7 @@ fn leaf_at(cells: &mut [u16], size: usize, x: usize, y: usize, z: usize)
 }
 
 // x + i - r; size says that it is outside.
+#[tactic(auto, unfolding(crate::specs::Crown::offset_or))]
 fn offset(size: usize, x: usize, i: usize, r: usize) -> usize
     requires { (x < 65536) × (i < 65536) }
     ensures { result ≡ offset_or size x i r }
@@ -68,6 +69,7 @@ fn diff(i: usize, r: usize) -> i32
 }
 
 // The hash of a rim leaf; the layer's offset is added to z.
+#[tactic(auto, unfolding(crate::specs::Crown::leaf_hash))]
 fn leaf_hash(wx: i32, wz: i32, r: usize, l: usize, i: usize, m: usize) -> f32
     requires { (r < 65536) × (l < 65536) × (i < 65536) × (m < 65536) }
     ensures { result ≡ leaf_hash wx wz r l i m }
@@ -95,6 +97,7 @@ fn leafy(wx: i32, wz: i32, r: usize, l: usize, i: usize, m: usize) -> bool
     false
 }
 
+#[tactic(auto, unfolding(crate::specs::Crown::leaf_step))]
 fn leaf(
     cells: &mut [u16],
     size: usize,
@@ -120,6 +123,7 @@ fn leaf(
 }
 
 // A leaf, in the slabs from lo on below hi alone.
+#[tactic(auto, unfolding(crate::specs::Slabs::leaf_step_in))]
 fn leaf_in(
     cells: &mut [u16],
     size: usize,
@@ -162,11 +166,10 @@ fn layer(
     ensures { cells.new ≡ layer_in lo hi size x z wx wz y r l cells.old }
 {
     let w = 2 * r + 1;
-    let n = w * w;
-    let mut j = 0;
-    while j < n {
-        leaf_in(cells, size, lo, hi, x, z, wx, wz, y, r, l, j / w, j % w);
-        j += 1;
+    for i in 0..w {
+        for m in 0..w {
+            leaf_in(cells, size, lo, hi, x, z, wx, wz, y, r, l, i, m);
+        }
     }
 }
 
@@ -205,12 +208,9 @@ pub fn canopy(
     requires { Cube size cells.old × (x < 64) × (z < 64) × (mag oy ≤ 1000000) × Canopy r n × (1 ≤ top) × (top < 4294967296) }
     ensures { cells.new ≡ canopy_in lo hi size oy x z wx wz (pos top) r n cells.old }
 {
-    let m = n + 1;
-    let mut l = 0;
-    while l < m {
+    for l in 0..n + 1 {
         let q = leaf_radius(n, l) as usize;
         let y = local_y(oy, top + l - 1, size);
         layer(cells, size, lo, hi, x, z, wx, wz, y, q, l);
-        l += 1;
     }
 }

@@ -29,13 +29,10 @@ pub fn row_top(z: usize, size: usize, heights: &[u16]) -> u16
 {
     let first = z * size;
     let mut top: u16 = 1;
-    let mut x = 0;
-    while x < size {
-        let h = heights[first + x];
-        if h > top {
-            top = h;
+    for h in &heights[first..first + size] {
+        if *h > top {
+            top = *h;
         }
-        x += 1;
     }
     top
 }
@@ -64,13 +61,11 @@ pub fn lay_line(
     let wy = along(o.oy, y);
     let column = z * size;
     let first = (column + y) * size;
-    let mut x = 0;
-    while x < o.size {
+    for x in 0..size {
         let t = Top {
             height: heights[column + x],
             biome: biomes[column + x],
         };
         cells[first + x] = cell(t, w.sea_level, wy, flags[x]);
-        x += 1;
     }
 }

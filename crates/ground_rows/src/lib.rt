@@ -72,13 +72,11 @@ fn lay_levels(
     ensures { LaidLines w o (z * o.size) (z * o.size + o.size) cells.old cells.new }
 {
     let mut from = lo;
-    let mut y = 0;
-    while y < o.size {
+    for y in 0..o.size {
         from = mark_line(
             o, lo, hi, from, y, z, heights, cuts, floors, eases, edges, flags,
         );
         lay_line(w, o, y, z, heights, biomes, flags, cells);
-        y += 1;
     }
 }
 

@@ -1,9 +1,10 @@
 -- Calls as they were made: `note_tops` notes the columns of a chunk, `lay_base` lays its rows before boulders and trees, `generate` lays the chunk
 -- (SCOPE 4.6 to 4.10, 4.15). What a caller learns of each is read off its contract. A change of a contract makes this module fail. Assumes nothing.
-use Rattle.std.specs.Prelude.{◌≡◌, refl, List, ◌++◌, ℕ, ◌*◌, Float, drop}
+use Rattle.std.specs.Prelude.{◌≡◌, refl, List, ◌++◌, ℕ, ◌*◌, Float, drop, Result, Ok}
 use Rattle.std.specs.Borrow.{Bor, MutBor}
 use contract.Lifetimes.{Lfts}
 use Rattle.config.specs.Answers.{cells_outcome}
+use Rattle.config.specs.declared.refusals.Refusal.{Refusal}
 use Rattle.config.specs.declared.TerrainConfig.{TerrainConfig}
 use Rattle.config.specs.declared.ChunkPos.{ChunkPos}
 use Rattle.column_tops.proofs.note_tops.Reads as tops_reads
@@ -12,8 +13,6 @@ use Rattle.ground_cell.specs.Base.{column_height, column_biome}
 use Rattle.ground_lines.specs.Lines.{LaidLines}
 use Rattle.ground_base.proofs.lay_base.Reads as base_reads
 use Rattle.ground.specs.Ground.{world_of, frame_of, says_generated, generate_does}
-use Rattle.ground.specs.declared.Generated.{Generated}
-use Rattle.ground.specs.declared.Generated.TheVariants.{Count}
 use Rattle.ground.proofs.generate.Reads as generate_reads
 
 -- a slice of whole numbers, and of f32, that is lent to be written; `now` is what it holds
@@ -76,7 +75,7 @@ module _ (s : TerrainConfig) (p : ChunkPos) where
       tt
       (world_of s, (frame_of s p, (k.first, (k.last, (k.heights, (k.biomes, (k.floors, (k.eases, (k.cells', tt)))))))))
 
-  abbrev pub GenerateGives : GenerateCall → Generated → Type 0
+  abbrev pub GenerateGives : GenerateCall → Result ℕ Refusal → Type 0
   GenerateGives k answer = generate_reads.Learnt k.lifetimes (s, (p, (k.cells, tt))) answer (s, (p, (k.cells', tt)))
 
   -- .. is its definition, by computation
@@ -94,7 +93,7 @@ module _ (s : TerrainConfig) (p : ChunkPos) where
       ≡ LaidLines (world_of s) (frame_of s p) (k.first * (frame_of s p).size) (k.last * (frame_of s p).size) k.cells.now k.cells'.now
   base_says k = refl
 
-  pub generate_says : (k : GenerateCall) (answer : Generated)
+  pub generate_says : (k : GenerateCall) (answer : Result ℕ Refusal)
       → GenerateGives k answer ≡ (cells_outcome (says_generated answer) k.cells'.now ≡ generate_does s p k.cells.now)
   generate_says k answer = refl
 
@@ -110,4 +109,4 @@ module _ (s : TerrainConfig) (p : ChunkPos) where
   pub record Generates : Type 1 where
     pub call : GenerateCall
     pub count : ℕ
-    pub gives : GenerateGives call (Count count)
+    pub gives : GenerateGives call (Ok count)

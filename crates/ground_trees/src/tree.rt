@@ -9,14 +9,15 @@ ghost use Rattle.ground_trees.specs.Features.{Canopy, tree_hash, variety_of, tre
 ghost use Rattle.ground_trees.specs.Slabs.{pillar_in, grow_in, plant_in, place_tree_in, tree_column_in, tree_step_in};
 
 use grid_slabs::in_rows;
-use ground_boulders::{inset, pillar, whole};
+use ground_boulders::{inset, pillar, spread, whole};
 use ground_cell::block::{LOG, gap};
 use ground_cell::world::{FOREST, Frame, PLAINS, Top, along, local_y};
 use ground_crown::canopy;
 use noise::hash2;
-use num_core::wrap::{wrapping_add, wrapping_mul};
+use num_core::wrap::wrapping_add;
 
 // A trunk, where its slab is one of those from lo on below hi.
+#[tactic(auto, unfolding(crate::specs::Slabs::pillar_in))]
 fn trunk_in(
     cells: &mut [u16],
     size: usize,
@@ -38,6 +39,7 @@ fn trunk_in(
 }
 
 // A trunk, then the canopy around its top, in those slabs.
+#[tactic(auto, unfolding(crate::specs::Slabs::grow_in))]
 fn grow(
     cells: &mut [u16],
     size: usize,
@@ -87,15 +89,14 @@ fn plant(
     grow(cells, size, lo, hi, oy, x, z, wx, wz, y, t, 2, 3);
 }
 
+#[tactic(auto, unfolding(crate::specs::Features::tree_hash))]
 fn tree_hash(wx: i32, wz: i32) -> f32
     ensures { result ≡ tree_hash wx wz }
 {
-    hash2(
-        wrapping_add(wrapping_mul(wx, 7), 1337),
-        wrapping_add(wrapping_mul(wz, 13), 7331),
-    )
+    hash2(spread(wx, 7, 1337), spread(wz, 13, 7331))
 }
 
+#[tactic(auto, unfolding(crate::specs::Features::variety_of))]
 fn variety(wx: i32, wz: i32) -> f32
     ensures { result ≡ variety_of wx wz }
 {
@@ -105,19 +106,11 @@ fn variety(wx: i32, wz: i32) -> f32
 fn tree_grows(b: u8, h: f32) -> bool
     ensures { result ≡ tree_grows b h }
 {
-    if b == FOREST {
-        if h > 0.025 {
-            return false;
-        }
-        return true;
+    match b {
+        FOREST => !(h > 0.025),
+        PLAINS => !(h > 0.003),
+        _ => false,
     }
-    if b == PLAINS {
-        if h > 0.003 {
-            return false;
-        }
-        return true;
-    }
-    false
 }
 
 fn giant(b: u8, v: f32) -> bool
@@ -142,6 +135,7 @@ fn in_chunk(size: usize, oy: i32, y: usize) -> bool
 }
 
 // A tree where the column is high enough, its hash low enough and its surface, which then is grass, in the chunk.
+#[tactic(auto, unfolding(crate::specs::Slabs::place_tree_in))]
 fn place_tree(
     cells: &mut [u16],
     size: usize,
@@ -175,6 +169,7 @@ fn place_tree(
 }
 
 // The tree of a column, if it has one, in those slabs; none stands less than 2 from the rim.
+#[tactic(auto, unfolding(crate::specs::Slabs::tree_column_in))]
 fn tree_column(
     cells: &mut [u16],
     lo: usize,
@@ -199,6 +194,7 @@ fn tree_column(
 }
 
 // The columns of the rows from `first` on below `last`, z outer and x inner, in the slabs from lo on below hi.
+// The walk is that of `place_boulders`, written out: a closure's clauses, of what each call does to the cells, would be longer than both walks.
 pub fn place_trees(
     o: Frame,
     sea: i32,
@@ -221,16 +217,14 @@ pub fn place_trees(
         ≡ over_rows o.size first last (tree_step_in lo hi o sea (top_in heights.now biomes.now)) cells.old }
 {
     let size = o.size;
-    let from = first * size;
-    let n = (last - first) * size;
-    let mut j = 0;
-    while j < n {
-        let k = from + j;
-        let t = Top {
-            height: heights[k],
-            biome: biomes[k],
-        };
-        tree_column(cells, lo, hi, o, sea, t, k % size, k / size);
-        j += 1;
+    for z in first..last {
+        for x in 0..size {
+            let k = z * size + x;
+            let t = Top {
+                height: heights[k],
+                biome: biomes[k],
+            };
+            tree_column(cells, lo, hi, o, sea, t, x, z);
+        }
     }
 }

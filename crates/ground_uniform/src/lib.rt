@@ -8,6 +8,7 @@ ghost use Rattle.ground_uniform.specs.Place.{deep_in, sky_in, all_of};
 use ground_cell::world::{Frame, World, along};
 
 // Whether the chunk lies so deep that every cell is stone: its highest cell is at -8 or lower.
+#[tactic(auto, unfolding(crate::specs::Place::deep_in))]
 pub fn is_deep(o: Frame) -> bool
     requires { Near o }
     ensures { result ≡ deep_in o }
@@ -16,6 +17,7 @@ pub fn is_deep(o: Frame) -> bool
 }
 
 // Whether the chunk lies so high that every cell is air: above the sea, and above a boulder on the highest column.
+#[tactic(auto, unfolding(crate::specs::Place::sky_in))]
 pub fn is_sky(w: World, o: Frame) -> bool
     requires { Tall w × Near o }
     ensures { result ≡ sky_in w o }
@@ -28,9 +30,5 @@ pub fn is_sky(w: World, o: Frame) -> bool
 pub fn fill(cells: &mut [u16], id: u16)
     ensures { cells.new ≡ all_of (length cells.old) id }
 {
-    let mut i = 0;
-    while i < cells.len() {
-        cells[i] = id;
-        i += 1;
-    }
+    cells.fill(id);
 }

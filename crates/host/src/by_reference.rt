@@ -1,6 +1,6 @@
-// The six calls of a session over a record lent by reference (SCOPE 7.7), for a host that keeps one: each hands the record to the call by
-// value and stores what comes back. Exported to C as they are; include/perillahinge.h says what each is for. One equation for the record, the
-// reply, the cells and the journal.
+// The six calls of a session over a record lent by reference (SCOPE 7.7), for a host that keeps one: each answers in numbers what the library's
+// call answers. Exported to C as they are; include/perillahinge.h says what each is for. One equation for the record, the reply, the cells and
+// the journal.
 ghost use Rattle.std.specs.Prelude.{◌≡◌};
 ghost use Rattle.session_calls.specs.Calls.{outcome, recorded, session_set_does, session_column_does, session_batch_does, session_undo_does};
 ghost use Rattle.session_calls.specs.Checkpoints.{session_checkpoint_does, session_restore_does};
@@ -20,9 +20,7 @@ pub extern "C" fn pl_session_set(
     ensures { outcome session.new result cells.new journal.new
         ≡ session_set_does session.old cells.old journal.old x y z id }
 {
-    let b = session_edit::set(*session, cells, journal, x, y, z, id);
-    *session = b.session;
-    b.reply
+    Reply::from(session_edit::set(session, cells, journal, x, y, z, id))
 }
 
 #[unsafe(no_mangle)]
@@ -38,9 +36,7 @@ pub extern "C" fn pl_session_fill_column(
     ensures { outcome session.new result cells.new journal.new
         ≡ session_column_does session.old cells.old journal.old x z height id }
 {
-    let b = session_edit::fill_column(*session, cells, journal, x, z, height, id);
-    *session = b.session;
-    b.reply
+    Reply::from(session_edit::fill_column(session, cells, journal, x, z, height, id))
 }
 
 #[unsafe(no_mangle)]
@@ -53,9 +49,7 @@ pub extern "C" fn pl_session_set_blocks(
     ensures { outcome session.new result cells.new journal.new
         ≡ session_batch_does session.old cells.old journal.old edits.now }
 {
-    let b = session_batch::set_blocks(*session, cells, journal, edits);
-    *session = b.session;
-    b.reply
+    Reply::from(session_batch::set_blocks(session, cells, journal, edits))
 }
 
 #[unsafe(no_mangle)]
@@ -67,9 +61,7 @@ pub extern "C" fn pl_session_undo(
     ensures { outcome session.new result cells.new journal.new
         ≡ session_undo_does session.old cells.old journal.old }
 {
-    let b = session_undo::undo(*session, cells, journal);
-    *session = b.session;
-    b.reply
+    Reply::from(session_undo::undo(session, cells, journal))
 }
 
 #[unsafe(no_mangle)]
@@ -81,9 +73,7 @@ pub extern "C" fn pl_session_checkpoint(
     ensures { recorded session.new result journal.new
         ≡ session_checkpoint_does session.old journal.old name.now }
 {
-    let b = session_checkpoint::checkpoint(*session, journal, name);
-    *session = b.session;
-    b.reply
+    Reply::from(session_checkpoint::checkpoint(session, journal, name))
 }
 
 #[unsafe(no_mangle)]
@@ -96,7 +86,5 @@ pub extern "C" fn pl_session_restore(
     ensures { outcome session.new result cells.new journal.new
         ≡ session_restore_does session.old cells.old journal.old name.now }
 {
-    let b = session_restore::restore(*session, cells, journal, name);
-    *session = b.session;
-    b.reply
+    Reply::from(session_restore::restore(session, cells, journal, name))
 }

@@ -1,7 +1,7 @@
 // The C boundary: include/perillahinge.h says what each function is for. Each hands its arguments to the library's call and answers in numbers:
 // a refusal's number (SCOPE 10), 0 where the call is accepted, its line, and its values. The session's edits, over a record lent by reference,
 // are in `by_reference`.
-#![tactic(auto)]
+#![tactic(auto, using(host_answers::proofs::InC::in_c))]
 
 ghost use Rattle.std.specs.Prelude.{◌≡◌, length};
 ghost use Rattle.noise.specs.Hash.{hash2₃₂, hash3₃₂};
@@ -21,7 +21,6 @@ ghost use Rattle.host_starts.specs.Sessions.{begun_in_c, fresh_in_c, resumed_in_
 
 mod by_reference;
 
-use config::refusals::FACE;
 use config::{ChunkPos, TerrainConfig};
 use host_answers::{Answer, BatchAnswer};
 use host_starts::Start;
@@ -72,42 +71,42 @@ pub extern "C" fn pl_fbm3d(x: f32, y: f32, z: f32, octaves: u32) -> f32
 pub extern "C" fn pl_generate(config: TerrainConfig, pos: ChunkPos, cells: &mut [u16]) -> Answer
     ensures { answered result cells.new ≡ edit_in_c (generate_does config pos cells.old) }
 {
-    host_answers::ground_answer(ground::generate(config, pos, cells))
+    Answer::from(ground::generate(config, pos, cells))
 }
 
 #[unsafe(no_mangle)]
 pub extern "C" fn pl_get(cells: &[u16], size: usize, x: usize, y: usize, z: usize) -> Answer
     ensures { result ≡ answer_of (chunk_get_does size cells.now x y z) }
 {
-    host_answers::id_answer(chunk_look::get(cells, size, x, y, z))
+    Answer::from(chunk_look::get(cells, size, x, y, z))
 }
 
 #[unsafe(no_mangle)]
 pub extern "C" fn pl_is_air(cells: &[u16], size: usize, x: usize, y: usize, z: usize) -> Answer
     ensures { result ≡ answer_of (chunk_is_air_does size cells.now x y z) }
 {
-    host_answers::flag_answer(chunk_look::is_air(cells, size, x, y, z))
+    Answer::from(chunk_look::is_air(cells, size, x, y, z))
 }
 
 #[unsafe(no_mangle)]
 pub extern "C" fn pl_is_empty(cells: &[u16], size: usize) -> Answer
     ensures { result ≡ answer_of (chunk_is_empty_does size cells.now) }
 {
-    host_answers::flag_answer(chunk_look::is_empty(cells, size))
+    Answer::from(chunk_look::is_empty(cells, size))
 }
 
 #[unsafe(no_mangle)]
 pub extern "C" fn pl_is_solid(cells: &[u16], size: usize) -> Answer
     ensures { result ≡ answer_of (chunk_is_solid_does size cells.now) }
 {
-    host_answers::flag_answer(chunk_look::is_solid(cells, size))
+    Answer::from(chunk_look::is_solid(cells, size))
 }
 
 #[unsafe(no_mangle)]
 pub extern "C" fn pl_replace_blocks(cells: &mut [u16], size: usize, blocks: &[u16]) -> Answer
     ensures { answered result cells.new ≡ edit_in_c (chunk_replace_does size cells.old blocks.now) }
 {
-    host_answers::count_answer(chunk_edit::replace_blocks(cells, size, blocks))
+    Answer::from(chunk_edit::replace_blocks(cells, size, blocks))
 }
 
 #[unsafe(no_mangle)]
@@ -122,7 +121,7 @@ pub extern "C" fn pl_set(
 ) -> Answer
     ensures { answered result cells.new ≡ edit_in_c (chunk_set_does size count cells.old x y z id) }
 {
-    host_answers::count_answer(chunk_edit::set(cells, size, count, x, y, z, id))
+    Answer::from(chunk_edit::set(cells, size, count, x, y, z, id))
 }
 
 #[unsafe(no_mangle)]
@@ -137,7 +136,7 @@ pub extern "C" fn pl_fill_column(
 ) -> Answer
     ensures { answered result cells.new ≡ edit_in_c (chunk_fill_does size count cells.old x z height id) }
 {
-    host_answers::count_answer(chunk_edit::fill_column(cells, size, count, x, z, height, id))
+    Answer::from(chunk_edit::fill_column(cells, size, count, x, z, height, id))
 }
 
 #[unsafe(no_mangle)]
@@ -149,7 +148,7 @@ pub extern "C" fn pl_set_blocks(
 ) -> BatchAnswer
     ensures { batch_answered result cells.new ≡ batch_in_c (chunk_batch_does size count cells.old edits.now) }
 {
-    host_answers::batch_answer(chunk_batch::set_blocks(cells, size, count, edits))
+    BatchAnswer::from(chunk_batch::set_blocks(cells, size, count, edits))
 }
 
 // SCOPE 10.6: a number above 5 names no face: 99.
@@ -162,15 +161,7 @@ pub extern "C" fn pl_extract_border(
 ) -> Answer
     ensures { border_answered result border.new ≡ border_in_c_does n size cells.now border.old }
 {
-    if n > 5 {
-        return host_answers::refused(FACE);
-    }
-    host_answers::border_answer(chunk_border::extract_border(
-        cells,
-        size,
-        host_answers::face(n),
-        border,
-    ))
+    Answer::from(host_answers::extract_border(cells, size, n, border))
 }
 
 #[unsafe(no_mangle)]
@@ -183,21 +174,21 @@ pub extern "C" fn pl_tally(
     ensures { tally_answered result ids.new counts.new
         ≡ tally_in_c (chunk_tally_does size cells.now ids.old counts.old) }
 {
-    host_answers::tally_answer(chunk_tally::tally(cells, size, ids, counts))
+    Answer::from(chunk_tally::tally(cells, size, ids, counts))
 }
 
 #[unsafe(no_mangle)]
 pub extern "C" fn pl_to_planes(cells: &[u16], size: usize, bytes: &mut [u8]) -> Answer
     ensures { planes_answered result bytes.new ≡ planes_in_c (to_planes_does size cells.now bytes.old) }
 {
-    host_answers::planes_answer(planes_write::to_planes(cells, size, bytes))
+    Answer::from(planes_write::to_planes(cells, size, bytes))
 }
 
 #[unsafe(no_mangle)]
 pub extern "C" fn pl_from_planes(bytes: &[u8], size: usize, cells: &mut [u16]) -> Answer
     ensures { answered result cells.new ≡ edit_in_c (from_planes_does size bytes.now cells.old) }
 {
-    host_answers::planes_answer(planes_read::from_planes(bytes, size, cells))
+    Answer::from(planes_read::from_planes(bytes, size, cells))
 }
 
 #[unsafe(no_mangle)]

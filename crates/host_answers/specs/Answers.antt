@@ -4,7 +4,7 @@ use Rattle.std.proofs.Common.{ap, ◌∙◌, arith}
 use Rattle.std.proofs.Math.Option.{Option, some, none}
 use Rattle.config.specs.Answers.{Answer, accepted, refused, CellsOutcome, cells_outcome}
 use Rattle.chunk_border.specs.declared.Face.{Face}
-use Rattle.chunk_border.specs.declared.Face.TheVariants.{PosX, NegX, PosY, NegY, PosZ, NegZ}
+pub use Rattle.chunk_border.specs.Faces.{face_of}
 use Rattle.chunk_border.specs.Border.{chunk_border_does, bordered, Bordered}
 use Rattle.chunk_tally.specs.Tally.{TallyOutcome}
 use Rattle.planes.specs.Planes.{PlanesOutcome, planes_outcome}
@@ -64,16 +64,6 @@ abbrev pub batch_in_c : CellsOutcome → BatchAnswered
 batch_in_c o = batch_answered (batch_answer_of o.answer) o.cells
 
 -- ---- the border
-
--- SCOPE 5.8, 10.6: a face is a number, 0 to 5 in the order of the Rust
-abbrev pub face_of : ℕ → Option Face
-face_of zero = some PosX
-face_of (suc zero) = some NegX
-face_of (suc (suc zero)) = some PosY
-face_of (suc (suc (suc zero))) = some NegY
-face_of (suc (suc (suc (suc zero)))) = some PosZ
-face_of (suc (suc (suc (suc (suc zero))))) = some NegZ
-face_of (suc (suc (suc (suc (suc (suc n)))))) = none
 
 pub record BorderAnswered : Type 0 where
   pub answer : AnswerInC
@@ -141,7 +131,7 @@ pub planes_in_c_lem : (r : AnswerInC) (a : Answer) (b : List ℕ) (o : PlanesOut
 planes_in_c_lem r a b o e f = ap (λ (u : AnswerInC). planes_answered u b) e ∙ ap planes_in_c f
 
 -- only 0 to 5 name a face
-no_face : (n : ℕ) → 5 < n → face_of n ≡ none
+pub no_face : (n : ℕ) → 5 < n → face_of n ≡ none
 no_face zero h = absurd (omega arith)
 no_face (suc zero) h = absurd (omega arith)
 no_face (suc (suc zero)) h = absurd (omega arith)

@@ -2,23 +2,16 @@
 // and its values.
 #![tactic(auto)]
 
-ghost use Rattle.std.specs.Prelude.{◌≡◌, ◌≤◌};
-ghost use Rattle.std.proofs.Math.Option.{some};
-ghost use Rattle.ground.specs.Ground.{says_generated};
-ghost use Rattle.chunk.specs.Replies.{says_counted, says_id, says_flag, yes};
+ghost use Rattle.std.specs.Prelude.{◌≡◌, ℕ, List, []};
+ghost use Rattle.config.specs.Answers.{says};
+ghost use Rattle.chunk.specs.Replies.{one_number, yes};
 ghost use Rattle.chunk_batch.specs.Replies.{says_written};
 ghost use Rattle.chunk_border.specs.Border.{says_extracted};
-ghost use Rattle.chunk_tally.specs.Tally.{says_listed};
-ghost use Rattle.planes.specs.Planes.{says_copied};
-ghost use Rattle.host_answers.specs.Answers.{answer, answer_of, batch_answer_of, face_of};
+ghost use Rattle.host_answers.specs.Answers.{first_of, answer_of, batch_answer_of, border_answered, border_in_c_does};
 
-use chunk::{BlockId, Counted, Flag};
-use chunk_batch::BatchReply;
-use chunk_border::{Extracted, Face};
-use chunk_tally::Listed;
-use config::refusals::OK;
-use ground::Generated;
-use planes::Copied;
+use chunk_batch::Batched;
+use chunk_border::Face;
+use config::Refusal;
 
 // The answer of a call on cells: the number of its refusal or 0, its line, and its value.
 #[repr(C)]
@@ -39,132 +32,104 @@ pub struct BatchAnswer {
     pub count: u32,
 }
 
-// An accepted call's answer.
-fn accepted(value: usize) -> Answer
-    ensures { result ≡ answer 0 0 value }
-{
-    Answer {
-        number: OK,
-        line: 0,
-        value,
+// What an accepted call tells: its values, of which C has the first, or 0 where there is none.
+pub trait Tells {
+    ghost values: { Self → List ℕ };
+
+    fn value(self) -> usize
+        ensures { result ≡ first_of (values self) };
+}
+
+// How many cells are not air.
+impl Tells for u32 {
+    ghost values = { one_number };
+
+    fn value(self) -> usize {
+        self as usize
     }
 }
 
-// A refusal: its line is 0, and it has no value.
-pub fn refused(number: u32) -> Answer
-    ensures { result ≡ answer number 0 0 }
-{
-    Answer {
-        number,
-        line: 0,
-        value: 0,
-    }
-}
+// A cell's id.
+impl Tells for u16 {
+    ghost values = { one_number };
 
-// Each answer of the library in C: one function for each kind.
-pub fn ground_answer(a: Generated) -> Answer
-    ensures { result ≡ answer_of (says_generated a) }
-{
-    match a {
-        Generated::Count(n) => accepted(n as usize),
-        Generated::Refused(k) => refused(k),
-    }
-}
-
-pub fn id_answer(a: BlockId) -> Answer
-    ensures { result ≡ answer_of (says_id a) }
-{
-    match a {
-        BlockId::Id(id) => accepted(id as usize),
-        BlockId::Refused(k) => refused(k),
+    fn value(self) -> usize {
+        usize::from(self)
     }
 }
 
 // Yes is 1, no is 0.
-fn number_of(b: bool) -> usize
-    ensures { result ≡ yes b }
-{
-    if b {
-        return 1;
-    }
-    0
-}
+impl Tells for bool {
+    ghost values = { λ b. one_number (yes b) };
 
-pub fn flag_answer(a: Flag) -> Answer
-    ensures { result ≡ answer_of (says_flag a) }
-{
-    match a {
-        Flag::Answer(b) => accepted(number_of(b)),
-        Flag::Refused(k) => refused(k),
+    fn value(self) -> usize {
+        usize::from(self)
     }
 }
 
-pub fn count_answer(a: Counted) -> Answer
-    ensures { result ≡ answer_of (says_counted a) }
-{
-    match a {
-        Counted::Count(n) => accepted(n as usize),
-        Counted::Refused(k) => refused(k),
+// How many ids were listed.
+impl Tells for usize {
+    ghost values = { one_number };
+
+    fn value(self) -> usize {
+        self
     }
 }
 
-pub fn batch_answer(a: BatchReply) -> BatchAnswer
-    ensures { result ≡ batch_answer_of (says_written a) }
-{
-    match a {
-        BatchReply::Written { written, count } => BatchAnswer {
-            number: OK,
-            line: 0,
-            written,
-            count,
-        },
-        BatchReply::Refused(k) => BatchAnswer {
-            number: k,
-            line: 0,
-            written: 0,
-            count: 0,
-        },
+// What was asked for lies in the lent slice.
+impl Tells for () {
+    ghost values = { λ _. [] };
+
+    fn value(self) -> usize {
+        0
     }
 }
 
-pub fn border_answer(a: Extracted) -> Answer
-    ensures { result ≡ answer_of (says_extracted a) }
-{
-    match a {
-        Extracted::Done => accepted(0),
-        Extracted::Refused(k) => refused(k),
+// A refusal has line 0, and no value.
+impl<T: Tells> From<Result<T, Refusal>> for Answer {
+    ghost from_gives = { λ told answer. answer ≡ answer_of (says T.values told) };
+
+    fn from(told: Result<T, Refusal>) -> Answer {
+        match told {
+            Ok(value) => Answer {
+                number: 0,
+                line: 0,
+                value: value.value(),
+            },
+            Err(refusal) => Answer {
+                number: refusal.number(),
+                line: 0,
+                value: 0,
+            },
+        }
     }
 }
 
-pub fn tally_answer(a: Listed) -> Answer
-    ensures { result ≡ answer_of (says_listed a) }
-{
-    match a {
-        Listed::Ids(n) => accepted(n),
-        Listed::Refused(k) => refused(k),
+impl From<Result<Batched, Refusal>> for BatchAnswer {
+    ghost from_gives = { λ told answer. answer ≡ batch_answer_of (says_written told) };
+
+    fn from(told: Result<Batched, Refusal>) -> BatchAnswer {
+        match told {
+            Ok(batched) => BatchAnswer {
+                number: 0,
+                line: 0,
+                written: batched.written,
+                count: batched.count,
+            },
+            Err(refusal) => BatchAnswer {
+                number: refusal.number(),
+                line: 0,
+                written: 0,
+                count: 0,
+            },
+        }
     }
 }
 
-pub fn planes_answer(a: Copied) -> Answer
-    ensures { result ≡ answer_of (says_copied a) }
+// The border on the side of a number. SCOPE 10.6: a number that names no face gets 99, before all other tests.
+pub fn extract_border(cells: &[u16], size: usize, n: u32, border: &mut [u16]) -> Result<(), Refusal>
+    ensures { border_answered (answer_of (says_extracted result)) border.new ≡ border_in_c_does n size cells.now border.old }
 {
-    match a {
-        Copied::Done => accepted(0),
-        Copied::Refused(k) => refused(k),
-    }
-}
-
-// The face of a number, 0 to 5 in the order of the Rust.
-pub fn face(n: u32) -> Face
-    requires { n ≤ 5 }
-    ensures { face_of n ≡ some result }
-{
-    match n {
-        0 => Face::PosX,
-        1 => Face::NegX,
-        2 => Face::PosY,
-        3 => Face::NegY,
-        4 => Face::PosZ,
-        _ => Face::NegZ,
-    }
+    let face = Face::try_from(n)?;
+    chunk_border::extract_border(cells, size, face, border)
 }

@@ -2,10 +2,8 @@
 use Rattle.std.specs.Prelude.{◌≡◌, List, ℕ, pos}
 use Rattle.std.proofs.Common.{ap, ◌∙◌}
 use Rattle.session_calls.specs.declared.Session.{Session}
-use Rattle.session_calls.specs.declared.Fresh.{Fresh}
-use Rattle.session_calls.specs.declared.Fresh.TheVariants.{Started, Refused as NotStarted}
-use Rattle.session_calls.specs.declared.Reopened.{Reopened}
-use Rattle.session_calls.specs.declared.Reopened.TheVariants.{Opened, Refused as NotOpened}
+use Rattle.session_calls.specs.Fresh.{Fresh, Started, Refused as NotStarted}
+use Rattle.session_calls.specs.Reopened.{Reopened, Opened, Refused as NotOpened}
 use Rattle.session_calls.specs.Calls.{session, Begun, begun, Resumed, resumed}
 use Rattle.host_starts.specs.declared.Start.{Start}
 

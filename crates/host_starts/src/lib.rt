@@ -2,11 +2,12 @@
 #![tactic(auto)]
 
 ghost use Rattle.std.specs.Prelude.{◌≡◌};
+ghost use Rattle.config.specs.Numbers.{number_of};
+ghost use Rattle.session_calls.specs.Answers.{says_fresh, says_reopened};
 ghost use Rattle.host_starts.specs.Sessions.{started_in_c, not_started, fresh_start, reopen_start};
 
-use config::refusals::OK;
-use config::{ChunkPos, TerrainConfig};
-use session_calls::{Fresh, Reopened, Session};
+use config::{ChunkPos, Refusal, Refused, TerrainConfig};
+use session_calls::{Opened, Session};
 
 // The answer of a fresh session or of reopening: the record, the number and line of a refusal, and of the journal the number of
 // whole lines and of trailing bytes.
@@ -25,7 +26,7 @@ fn begin(session: Session, lines: usize, trailing: usize) -> Start
 {
     Start {
         session,
-        number: OK,
+        number: 0,
         line: 0,
         lines,
         trailing,
@@ -33,8 +34,8 @@ fn begin(session: Session, lines: usize, trailing: usize) -> Start
 }
 
 // A refusal has no record: all its numbers are 0.
-fn begin_none(number: u32, line: usize) -> Start
-    ensures { result ≡ not_started number line }
+fn begin_none(refused: Refused) -> Start
+    ensures { result ≡ not_started (number_of refused.refusal) refused.line }
 {
     let config = TerrainConfig {
         seed: 0,
@@ -56,31 +57,27 @@ fn begin_none(number: u32, line: usize) -> Start
     };
     Start {
         session,
-        number,
-        line,
+        number: refused.refusal.number(),
+        line: refused.line,
         lines: 0,
         trailing: 0,
     }
 }
 
-pub fn fresh_start(a: Fresh) -> Start
-    ensures { result ≡ fresh_start a }
+pub fn fresh_start(answer: Result<Session, Refusal>) -> Start
+    ensures { result ≡ fresh_start (says_fresh answer) }
 {
-    match a {
-        Fresh::Started(s) => begin(s, 1, 0),
-        Fresh::Refused { number, line } => begin_none(number, line),
+    match answer {
+        Ok(session) => begin(session, 1, 0),
+        Err(refusal) => begin_none(Refused::from(refusal)),
     }
 }
 
-pub fn reopen_start(a: Reopened) -> Start
-    ensures { result ≡ reopen_start a }
+pub fn reopen_start(answer: Result<Opened, Refused>) -> Start
+    ensures { result ≡ reopen_start (says_reopened answer) }
 {
-    match a {
-        Reopened::Opened {
-            session,
-            lines,
-            trailing,
-        } => begin(session, lines, trailing),
-        Reopened::Refused { number, line } => begin_none(number, line),
+    match answer {
+        Ok(opened) => begin(opened.session, opened.lines, opened.trailing),
+        Err(refused) => begin_none(refused),
     }
 }

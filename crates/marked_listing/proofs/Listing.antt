@@ -11,11 +11,10 @@ use Rattle.journal_format.specs.Fields.{fields, join_tabs, whole_of, integer_of,
 use Rattle.journal_format.specs.Line.{set, cell_ok, set_of, column_ok, column_of, line_of, header_of}
 use Rattle.journal_format.specs.Journal.{lines_from, lines, committed, after_line, active, none_active, read, follow}
 use Rattle.ground.specs.Ground.{ground}
-use Rattle.journal_open.specs.Opens.{opening_of}
-use Rattle.journal_open.specs.declared.Opening.TheVariants.{Opens}
+use Rattle.journal_open.specs.Opens.{Opens, opening_of}
 use Rattle.session_calls.specs.Asked.{lay_edit, lay_all}
 use Rattle.session_calls.specs.Calls.{session, Resumed, resumed, config_of, pos_of, open_with, session_reopen_does}
-use Rattle.session_calls.specs.declared.Reopened.TheVariants.{Opened}
+use Rattle.session_calls.specs.Reopened.{Opened}
 use Rattle.session_reopen.proofs.Opens.{open_with_lem}
 use Rattle.session_reopen.proofs.Reopens.{from_opening, reopen_is}
 use Rattle.openmap_lines.specs.Text.{fields_line, fields_of, each, ok_text, row_text, layer_text, map_text}

@@ -26,6 +26,11 @@ ease₃₂ x = smooth₃₂ (sub binary32 x (of_int binary32 (floor_i x)))
 abbrev pub next : ℤ → ℤ
 next i = add_w i (pos 1)
 
+-- between the four corners of a square, with what `at` has there
+abbrev pub corners₃₂ : (ℤ → ℤ → Float) → ℤ → ℤ → Float → Float → Float
+corners₃₂ at ix iy fx fy =
+    lerp₃₂ (lerp₃₂ (at ix iy) (at (next ix) iy) fx) (lerp₃₂ (at ix (next iy)) (at (next ix) (next iy)) fx) fy
+
 -- between the four corners of a square of the lattice
 unfoldable pub square₃₂ : ℤ → ℤ → Float → Float → Float
 square₃₂ ix iy fx fy =

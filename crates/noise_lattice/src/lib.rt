@@ -1,8 +1,9 @@
 // Hash-based value noise: the noise of one octave of noise.rs. Every f32 operation stands in its order.
 #![tactic(auto)]
 
-ghost use Rattle.std.specs.Prelude.{◌≡◌};
-ghost use Rattle.noise_lattice.specs.Noise.{smooth₃₂, lerp₃₂, square₃₂, noise2d₃₂, layer₃₂, noise3d₃₂};
+ghost use Rattle.std.specs.Prelude.{◌≡◌, ℤ, Float, FitsSigned};
+ghost use Rattle.std.specs.Int.{w32};
+ghost use Rattle.noise_lattice.specs.Noise.{smooth₃₂, lerp₃₂, corners₃₂, noise2d₃₂, layer₃₂, noise3d₃₂};
 
 use noise_hash::{hash2, hash3};
 use num_core::float::floor_part;
@@ -22,15 +23,18 @@ pub fn lerp(a: f32, b: f32, t: f32) -> f32
     a + (b - a) * t
 }
 
-// Between the four corners of the lattice square at (ix, iy). ix + 1 wraps, so that no input is refused.
-fn square2(ix: i32, iy: i32, fx: f32, fy: f32) -> f32
-    ensures { result ≡ square₃₂ ix iy fx fy }
+// Between the four corners of the lattice square at (ix, iy), whose values `hash` gives. ix + 1 wraps, so that no input is refused.
+fn square<F: Fn(i32, i32) -> f32>(hash: F, ix: i32, iy: i32, fx: f32, fy: f32) -> f32
+    requires { F.IsAlwaysCallable hash }
+    ensures { (at : ℤ → ℤ → Float)
+        → ((x y : ℤ) (val : Float) → FitsSigned w32 x → FitsSigned w32 y → F.post hash x y val → val ≡ at x y)
+        → result ≡ corners₃₂ at ix iy fx fy }
 {
     let jx = wrapping_add(ix, 1);
     let jy = wrapping_add(iy, 1);
     lerp(
-        lerp(hash2(ix, iy), hash2(jx, iy), fx),
-        lerp(hash2(ix, jy), hash2(jx, jy), fx),
+        lerp(hash(ix, iy), hash(jx, iy), fx),
+        lerp(hash(ix, jy), hash(jx, jy), fx),
         fy,
     )
 }
@@ -45,20 +49,14 @@ pub fn noise2d(x: f32, y: f32) -> f32
     let fy = smooth(y - py.f);
     let ix = px.i;
     let iy = py.i;
-    square2(ix, iy, fx, fy)
+    square(hash2, ix, iy, fx, fy)
 }
 
 // Between the four corners at iz of a lattice cube.
 fn layer3(ix: i32, iy: i32, iz: i32, fx: f32, fy: f32) -> f32
     ensures { result ≡ layer₃₂ ix iy iz fx fy }
 {
-    let jx = wrapping_add(ix, 1);
-    let jy = wrapping_add(iy, 1);
-    lerp(
-        lerp(hash3(ix, iy, iz), hash3(jx, iy, iz), fx),
-        lerp(hash3(ix, jy, iz), hash3(jx, jy, iz), fx),
-        fy,
-    )
+    square(|x, y| hash3(x, y, iz), ix, iy, fx, fy)
 }
 
 // 3D value noise, smoothed: two layers of four corners.

@@ -43,8 +43,7 @@ fn edge_row(
     let mut at = floors[base];
     let mut a = hash3(of_bits(at), iy, iz);
     let mut b = hash3(wrapping_add(of_bits(at), 1), iy, iz);
-    let mut i = 0;
-    while i < n {
+    for i in 0..n {
         let next = floors[base + i];
         if next != at {
             at = next;
@@ -52,7 +51,6 @@ fn edge_row(
             b = hash3(wrapping_add(of_bits(at), 1), iy, iz);
         }
         edges[to + i] = lerp(a, b, eases[base + i]);
-        i += 1;
     }
 }
 
@@ -99,12 +97,10 @@ pub fn add_row(
     let fy = eases[ky];
     let fz = eases[kz];
     let to = o * LAYER;
-    let mut i = 0;
-    while i < n {
+    for i in 0..n {
         let j = to + i;
         let low = lerp(edges[j], edges[j + NEXT_Y], fy);
         let high = lerp(edges[j + NEXT_Z], edges[j + NEXT_YZ], fy);
-        sums[i] = sums[i] + lerp(low, high, fz) * amp;
-        i += 1;
+        sums[i] += lerp(low, high, fz) * amp;
     }
 }

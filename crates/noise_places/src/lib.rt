@@ -64,12 +64,10 @@ fn add_octave_at(xs: &[f32], ys: &[f32], freq: f32, amp: f32, n: usize, vals: &m
     ensures { Row n (one_more (along_places xs.now ys.now) freq amp vals.old) vals.new }
 {
     let mut k = square_at(0, 0);
-    let mut i = 0;
-    while i < n {
+    for i in 0..n {
         let s = noise_at(k, xs[i] * freq, ys[i] * freq);
-        vals[i] = vals[i] + s.val * amp;
+        vals[i] += s.val * amp;
         k = s.kept;
-        i += 1;
     }
 }
 

@@ -49,14 +49,12 @@ fn run_end(base: usize, lo: usize, n: usize, floors: &[u32]) -> usize
     ensures { Run base lo n result floors.now }
 {
     let at = floors[base + lo];
-    let mut i = lo + 1;
-    while i < n {
+    for i in lo + 1..n {
         if floors[base + i] != at {
             return i;
         }
-        i += 1;
     }
-    i
+    n
 }
 
 // Adds an octave to the places from lo to hi, which lie in one square.
@@ -73,14 +71,13 @@ fn add_run(
     requires { (lo ≤ hi) × (hi ≤ 64) × (base ≤ 65536) × (base + hi ≤ length eases.now) × (hi ≤ length vals.old) }
     ensures { Added (in_square k fy base eases.now) amp lo hi vals.old vals.new }
 {
-    let mut i = lo;
-    while i < hi {
-        vals[i] = vals[i] + between(k, eases[base + i], fy) * amp;
-        i += 1;
+    for i in lo..hi {
+        vals[i] += between(k, eases[base + i], fy) * amp;
     }
 }
 
-// Adds an octave to each place of a row at y, square by square. Whole part and fraction of y are worked out once.
+// Adds an octave to each place of a row at y, square by square. Whole part and fraction of y are worked out once. The loop
+// goes on by a run of places, which its body finds; so no range counts it.
 fn add_octave(
     y: f32,
     freq: f32,
@@ -111,21 +108,15 @@ pub fn clear(n: usize, vals: &mut [f32])
     requires { (n ≤ 64) × (n ≤ length vals.old) }
     ensures { Row n zero_at vals.new }
 {
-    let mut i = 0;
-    while i < n {
-        vals[i] = 0.0;
-        i += 1;
-    }
+    vals[..n].fill(0.0);
 }
 
 pub fn divide(max: f32, n: usize, vals: &mut [f32])
     requires { (n ≤ 64) × (n ≤ length vals.old) }
     ensures { Row n (share_at max vals.old) vals.new }
 {
-    let mut i = 0;
-    while i < n {
-        vals[i] = vals[i] / max;
-        i += 1;
+    for i in 0..n {
+        vals[i] /= max;
     }
 }
 

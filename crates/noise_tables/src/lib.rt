@@ -35,16 +35,12 @@ pub fn entry_of(x: f32) -> Entry
 pub fn scaled(k: usize, t: f32) -> f32
     ensures { result ≡ scaled_by k t }
 {
-    if k == 0 {
-        return t * 1.0;
+    match k {
+        0 => t * 1.0,
+        1 => t * 2.0,
+        2 => t * 4.0,
+        _ => t * 8.0,
     }
-    if k == 1 {
-        return t * 2.0;
-    }
-    if k == 2 {
-        return t * 4.0;
-    }
-    t * 8.0
 }
 
 // Notes n places from base on.
@@ -52,12 +48,10 @@ pub fn note_octave(xs: &[f32], base: usize, n: usize, floors: &mut [u32], eases:
     requires { (n ≤ 64) × (base ≤ 65536) × (n ≤ length xs.now) × (base + n ≤ length floors.old) × (base + n ≤ length eases.old) }
     ensures { Told base n xs.now floors.old eases.old floors.new eases.new }
 {
-    let mut i = 0;
-    while i < n {
+    for i in 0..n {
         let e = entry_of(xs[i]);
         let j = base + i;
         floors[j] = e.at;
         eases[j] = e.ease;
-        i += 1;
     }
 }

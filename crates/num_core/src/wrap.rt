@@ -1,4 +1,4 @@
 // 32-bit integers modulo 2^32: `num_wrap` re-exported.
 pub use num_wrap::{
-    bits_of, fold_13, fold_16, low_bits, of_bits, wrapping_add, wrapping_mul, wrapping_mul_u32,
+    bits_of, fold, low_bits, of_bits, wrapping_add, wrapping_mul, wrapping_mul_u32,
 };

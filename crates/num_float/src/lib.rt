@@ -7,21 +7,11 @@ ghost use Rattle.std.specs.Float.{binary32};
 ghost use Rattle.std.specs.Float.Ieee.{of_int};
 ghost use Rattle.num_float.specs.Num.{abs₃₂, clamp₃₂, max₃₂, to_i32};
 
-// Toward zero; beyond the ends of i32 the end, and 0 for a NaN. The two tests leave what an i64 surely holds.
+// Toward zero; beyond the ends of i32 the end, and 0 for a NaN.
 pub fn to_i32(x: f32) -> i32
     ensures { result ≡ to_i32 x }
 {
-    if x < 2147483648.0 {
-        if x > -2147483648.0 {
-            std::num::truncating_f32_to_i64(x) as i32
-        } else {
-            -2147483648
-        }
-    } else if x == x {
-        2147483647
-    } else {
-        0 // a NaN
-    }
+    std::num::saturating_f32_to_i32(x)
 }
 
 // The nearest f32, ties to even.
@@ -31,20 +21,15 @@ pub fn of_i32(n: i32) -> f32
     std::num::nearest_i32_to_f32(n)
 }
 
-// -0.0 is not below 0.0, but equal to it: hence the second test.
+// Of -0.0 too; a NaN stays.
 pub fn abs(x: f32) -> f32
     ensures { result ≡ abs₃₂ x }
 {
-    if x < 0.0 {
-        -x
-    } else if x == 0.0 {
-        0.0
-    } else {
-        x
-    }
+    x.abs()
 }
 
-// x itself where it lies between, so that -0.0 and a NaN stay.
+// x itself where it lies between, so that -0.0 and a NaN stay. `f32::clamp` asks that lo is no greater than hi, where
+// this asks nothing.
 pub fn clamp(x: f32, lo: f32, hi: f32) -> f32
     ensures { result ≡ clamp₃₂ x lo hi }
 {
@@ -57,7 +42,8 @@ pub fn clamp(x: f32, lo: f32, hi: f32) -> f32
     }
 }
 
-// The third arm is for a NaN in b, and the second for one in a too.
+// The third arm is for a NaN in b, and the second for one in a too. `f32::max` leaves open which of 0.0 and -0.0 comes
+// out, where `max₃₂` has a.
 pub fn max(a: f32, b: f32) -> f32
     ensures { result ≡ max₃₂ a b }
 {

@@ -3,25 +3,26 @@
 #![tactic(auto)]
 
 ghost use Rattle.std.specs.Prelude.{◌≡◌, ◌+◌, ◌<◌, length};
+ghost use Rattle.openmap_io.specs.declared.Failure.TheVariants.{Call};
 ghost use Rattle.openmap_io.specs.Steps.{Moved, step_of, reading_of, Reaches, ReadOn, Held};
 
 use std::fmt::Write;
 use std::io::{ErrorKind, Input, Print, Read};
 use std::{fmt, io};
 
-// How far a reading or a writing is after a call: it goes on at a byte, or the call moved nothing, or it failed.
-#[derive(Drop)]
-enum Step {
-    At(usize),
-    End,
-    Failed(io::Error),
-}
-
 // Why a reading or a writing failed: by the error of a call, or because the calls came to nothing, as a write that took no byte.
 #[derive(Clone, Copy)]
 pub enum Failure {
     Call(io::Error),
     Stuck,
+}
+
+impl From<io::Error> for Failure {
+    ghost from_gives = { λ error failure. failure ≡ Call error };
+
+    fn from(error: io::Error) -> Failure {
+        Failure::Call(error)
+    }
 }
 
 // The system's words for an error alone: the number that std writes behind them is left out.
@@ -59,37 +60,23 @@ impl fmt::Display for Failure {
     }
 }
 
-// What a reading came to: the input to its end, or to the end of the room for it; or a read that failed.
-#[derive(Drop)]
-pub enum Reading {
-    Whole(usize),
-    Failed(Failure),
-}
-
-// By the answer of a call on the part of a buffer that begins at `at`. An interrupted call is made again.
-fn step_by(at: usize, answer: io::Result<usize>, part: &[u8]) -> Step
+// By the answer of a call on the part of a buffer that begins at `at`: where to go on, or None where the call moved nothing.
+// An interrupted call is made again.
+fn step_by(at: usize, answer: io::Result<usize>, part: &[u8]) -> io::Result<Option<usize>>
     requires moved { Moved (length part.now) answer }
     requires part_bound { at + length part.now < 9223372036854775808 }
     ensures { result ≡ step_of at answer }
 {
     match answer {
-        Err(error) => {
-            if error.kind() == ErrorKind::Interrupted {
-                return Step::At(at);
-            }
-            return Step::Failed(error);
-        }
-        Ok(n) => {
-            if n == 0 {
-                return Step::End;
-            }
-            Step::At(at + n)
-        }
+        Err(error) if error.kind() == ErrorKind::Interrupted => Ok(Some(at)),
+        Err(error) => Err(error),
+        Ok(0) => Ok(None),
+        Ok(n) => Ok(Some(at + n)),
     }
 }
 
 // One call of read, into the bytes from `at` on; those before stay.
-fn read_some<R: Read>(input: &mut R, journal: &mut [u8], at: usize) -> Step
+fn read_some<R: Read>(input: &mut R, journal: &mut [u8], at: usize) -> io::Result<Option<usize>>
     requires { at < length journal.old }
     ensures { ReadOn journal.old at result journal.new }
 {
@@ -99,40 +86,40 @@ fn read_some<R: Read>(input: &mut R, journal: &mut [u8], at: usize) -> Step
 }
 
 // What a reading came to whose last call left it so, with `at` bytes read.
-fn reading_by(at: usize, step: Step) -> Reading
+fn reading_by(at: usize, step: io::Result<Option<usize>>) -> Result<usize, Failure>
     ensures { result ≡ reading_of at step }
 {
-    match step {
-        Step::End => Reading::Whole(at),
-        Step::Failed(error) => Reading::Failed(Failure::Call(error)),
-        Step::At(_) => Reading::Failed(Failure::Stuck),
+    match step? {
+        None => Ok(at),
+        Some(_) => Err(Failure::Stuck),
     }
 }
 
-// Reads until the input ends or the room is full. Nothing says that calls move bytes, so the turns are counted down, from a
-// number that no run uses up; a run that did would have failed.
-pub fn read_journal(rt: &impl Input, journal: &mut [u8]) -> Reading
+// Reads until the input ends or the room is full, and answers how many bytes came. Nothing says that calls move bytes, so they are
+// counted, up to a number that no run reaches; a run that did would have failed.
+pub fn read_journal(rt: &impl Input, journal: &mut [u8]) -> Result<usize, Failure>
     ensures { Held result journal.new }
 {
     let mut input = rt.reader();
     let mut at = 0;
-    let mut turns = u64::MAX;
-    while at < journal.len() {
-        if turns == 0 {
-            return Reading::Failed(Failure::Stuck);
+    for _ in 0..u64::MAX {
+        if at == journal.len() {
+            break;
         }
         let step = read_some(&mut input, journal, at);
-        let Step::At(next) = step else {
+        let Ok(Some(next)) = step else {
             return reading_by(at, step);
         };
         at = next;
-        turns -= 1;
     }
-    Reading::Whole(at)
+    if at < journal.len() {
+        return Err(Failure::Stuck);
+    }
+    Ok(at)
 }
 
 // One call of write, of the bytes from `at` on.
-fn write_some(rt: &impl Print, text: &[u8], at: usize) -> Step
+fn write_some(rt: &impl Print, text: &[u8], at: usize) -> io::Result<Option<usize>>
     requires { at < length text.now }
     ensures { Reaches at (length text.now) result }
 {
@@ -144,17 +131,17 @@ fn write_some(rt: &impl Print, text: &[u8], at: usize) -> Step
 // Writes all of the text; or fails where a write failed or took nothing.
 pub fn write_text(rt: &impl Print, text: &[u8]) -> Result<(), Failure> {
     let mut at = 0;
-    let mut turns = u64::MAX;
-    while at < text.len() {
-        if turns == 0 {
+    for _ in 0..u64::MAX {
+        if at == text.len() {
+            return Ok(());
+        }
+        let Some(next) = write_some(rt, text, at)? else {
             return Err(Failure::Stuck);
-        }
-        match write_some(rt, text, at) {
-            Step::At(next) => at = next,
-            Step::End => return Err(Failure::Stuck),
-            Step::Failed(error) => return Err(Failure::Call(error)),
-        }
-        turns -= 1;
+        };
+        at = next;
+    }
+    if at < text.len() {
+        return Err(Failure::Stuck);
     }
     Ok(())
 }

@@ -8,17 +8,16 @@ ghost use Rattle.openmap_lines.specs.Appended.{Appended};
 ghost use Rattle.openmap_lines.specs.Separated.{separated};
 ghost use Rattle.openmap_lines.specs.Fits.{Fits};
 
+use text::LineBuffer;
+
 // A fixed text.
 fn put_text(out: &mut [u8], at: usize, t: &[u8]) -> usize
     requires { Fits out.old at t.now }
     ensures { Appended out.old at t.now out.new result }
 {
-    let mut i: usize = 0;
-    while i < t.len() {
-        out[at + i] = t[i];
-        i += 1;
-    }
-    at + i
+    let end = at + t.len();
+    out[at..end].copy_from_slice(t);
+    end
 }
 
 pub fn put_byte(out: &mut [u8], at: usize, b: u8) -> usize
@@ -34,10 +33,9 @@ fn put_number(out: &mut [u8], at: usize, n: u64) -> usize
     requires { Fits out.old at (decimal n) }
     ensures { Appended out.old at (decimal n) out.new result }
 {
-    let l = text::put_number(text::empty(), n);
-    let k = l.len;
-    journal_write::write_line(out, at, l);
-    at + k
+    let mut digits = LineBuffer::new();
+    text::put_number(&mut digits, n);
+    put_text(out, at, &digits)
 }
 
 // A number behind a tab.

@@ -16,8 +16,7 @@ use Rattle.journal_format.specs.Journal.{lines, Read, read, bad, none_active, fo
 use Rattle.journal_format.specs.Written.{written, take_written}
 use Rattle.basics.specs.Bools.{pick}
 use Rattle.text.specs.Decimal.{decimal, decimal_f}
-use Rattle.journal_open.specs.Opens.{opening_of}
-use Rattle.journal_open.specs.declared.Opening.TheVariants.{Opens, Refused}
+use Rattle.journal_open.specs.Opens.{Opens, Refused, opening_of}
 use Rattle.journal_open.proofs.Accepts.{opening_facts}
 use Rattle.session_calls.specs.Record.{cube}
 use Rattle.session_calls.specs.Asked.{lay_all}

@@ -1,6 +1,6 @@
 -- What reopening leaves, as `report` prints it. Assumes nothing.
 use mathlib.Core.Path.{◌≡◌, refl, sym, ◌∙◌, ap, subst}
-use mathlib.Core.List.{List, [], ◌++◌}
+use mathlib.Core.List.{List, ◌++◌}
 use mathlib.Core.Option.{some}
 use Prim.Native.Nat.{ℕ, suc, ◌-◌, ◌*◌, ◌≤◌, ◌<◌}
 use native.Mathlib.Nat.{zero-add, mul-le-mul}
@@ -15,14 +15,11 @@ use Rattle.config.specs.declared.TerrainConfig.{TerrainConfig}
 use Rattle.config.specs.declared.ChunkPos.{ChunkPos}
 use Rattle.config.specs.Limits.{limit_refusal}
 use Rattle.journal_format.specs.Journal.{lines, Read, read, bad, follow, none_active}
-use Rattle.journal_open.specs.Opens.{opening_of}
-use Rattle.journal_open.specs.declared.Opening.{Opening}
-use Rattle.journal_open.specs.declared.Opening.TheVariants.{Opens, Refused as Shut}
+use Rattle.journal_open.specs.Opens.{Opening, Opens, Refused as Shut, opening_of}
 use Rattle.journal_open.proofs.Accepts.{opening_facts}
 use Rattle.session_calls.specs.Record.{size_of, cube}
 use Rattle.session_calls.specs.Calls.{Resumed, resumed, config_of, pos_of, open_with, open_header, session_reopen_does}
-use Rattle.session_calls.specs.declared.Reopened.{Reopened}
-use Rattle.session_calls.specs.declared.Reopened.TheVariants.{Opened, Refused}
+use Rattle.session_calls.specs.Reopened.{Reopened, Opened, Refused}
 use Rattle.session_reopen.proofs.Numbers.{size_natural}
 use Rattle.session_reopen.proofs.Opens.{open_six, open_with_lem}
 use Rattle.session_reopen.proofs.Reopens.{from_opening, reopen_is}
@@ -75,7 +72,8 @@ module _ (j : List ℕ) (held : ℕ) (c o : List ℕ) where
   unfolding report_does
   few_bytes h k = rw (le-leb 4096 (length c) h, lt-leb 25000 (length o) k)
 
-  enough : 4096 ≤ length c → 25000 ≤ length o → told (session_reopen_does (take (lent_cells j held) c) j held) (drop (lent_cells j held) c) o ≡ report_does j held c o
+  enough : 4096 ≤ length c → 25000 ≤ length o
+      → told (session_reopen_does (take (lent_cells j held) c) j held) (drop (lent_cells j held) c) o ≡ report_does j held c o
   unfolding report_does
   enough h k = rw (le-leb 4096 (length c) h, le-leb 25000 (length o) k)
 

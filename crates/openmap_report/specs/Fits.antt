@@ -2,8 +2,7 @@
 use Rattle.std.specs.Prelude.{List, ℕ, ◌≤◌, length}
 use Rattle.grid.specs.Cube.{Cube}
 use Rattle.session_calls.specs.Record.{size_of}
-use Rattle.session_calls.specs.declared.Reopened.{Reopened}
-use Rattle.session_calls.specs.declared.Reopened.TheVariants.{Opened, Refused}
+use Rattle.session_calls.specs.Reopened.{Reopened, Opened, Refused}
 
 -- an opened map's cells are of its size
 abbrev pub Sized : Reopened → List ℕ → Type 0

@@ -1,5 +1,5 @@
 -- What the program prints; when it refuses, and with which number (SCOPE 11.3), is in `proofs/Laws`. Assumes nothing.
-use Rattle.std.specs.Prelude.{List, ℕ, ◌-◌, take}
+use Rattle.std.specs.Prelude.{List, ℕ, take}
 use Rattle.session_calls.specs.Calls.{session_reopen_does}
 use Rattle.openmap_report.specs.Text.{report_text}
 use Rattle.openmap_report.specs.Report.{lent_cells}

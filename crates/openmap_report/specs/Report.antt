@@ -2,9 +2,7 @@
 use Rattle.std.specs.Prelude.{◌&&◌, List, ◌++◌, ℕ, nat_abs, length, take, drop, leb}
 use Rattle.basics.specs.Bools.{pick}
 use Rattle.journal_format.specs.Written.{written}
-use Rattle.journal_open.specs.Opens.{opening_of}
-use Rattle.journal_open.specs.declared.Opening.{Opening}
-use Rattle.journal_open.specs.declared.Opening.TheVariants.{Opens, Refused}
+use Rattle.journal_open.specs.Opens.{Opening, Opens, Refused, opening_of}
 use Rattle.session_calls.specs.Record.{cube}
 use Rattle.session_calls.specs.Calls.{Resumed, session_reopen_does}
 use Rattle.openmap_report.specs.Text.{report_text}

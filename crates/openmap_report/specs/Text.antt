@@ -2,8 +2,7 @@
 use Rattle.std.specs.Prelude.{List, ◌++◌, ℕ}
 use Rattle.session_calls.specs.Record.{size_of}
 use Rattle.session_calls.specs.Calls.{Resumed}
-use Rattle.session_calls.specs.declared.Reopened.{Reopened}
-use Rattle.session_calls.specs.declared.Reopened.TheVariants.{Opened, Refused}
+use Rattle.session_calls.specs.Reopened.{Reopened, Opened, Refused}
 use Rattle.openmap_lines.specs.Text.{ok_text, no_text, map_text}
 
 -- for each answer of a reopening, with the cells that it left

@@ -3,6 +3,7 @@
 
 ghost use Rattle.std.specs.Prelude.{◌≡◌, ◌≤◌, nat_abs, leb};
 ghost use Rattle.basics.specs.Bools.{pick};
+ghost use Rattle.session_calls.specs.Answers.{says_reopened};
 ghost use Rattle.session_calls.specs.Record.{cube};
 ghost use Rattle.config.specs.Limits.{limit_refusal};
 ghost use Rattle.openmap_report.specs.Text.{answer_text};
@@ -10,10 +11,9 @@ ghost use Rattle.openmap_lines.specs.Appended.{Appended};
 ghost use Rattle.openmap_report.specs.Fits.{Printable};
 ghost use Rattle.openmap_report.specs.Report.{lent_cells, reported, report_does};
 
-use config::Header;
 use config::bounds::NUMBERS_MOST;
-use journal_open::Opening;
-use session_calls::Reopened;
+use config::{Header, Refused};
+use session_calls::Opened;
 
 // The greatest size that is printed. With a greater one all cells are lent, which are too few for it.
 const PRINTED_MOST: usize = 16;
@@ -24,22 +24,24 @@ pub const CELLS: usize = PRINTED_MOST * PRINTED_MOST * PRINTED_MOST;
 pub const TEXT_BYTES: usize = 25000;
 
 // The text of an answer, with the cells that the reopening left.
-fn put_answer(out: &mut [u8], cells: &[u16], answer: Reopened) -> usize
-    requires { Printable answer cells.now out.old }
-    ensures { Appended out.old 0 (answer_text answer cells.now) out.new result }
+fn put_answer(out: &mut [u8], cells: &[u16], answer: Result<Opened, Refused>) -> usize
+    requires { Printable (says_reopened answer) cells.now out.old }
+    ensures { Appended out.old 0 (answer_text (says_reopened answer) cells.now) out.new result }
 {
     match answer {
-        Reopened::Refused { number, line } => openmap_lines::put_refused(out, number, line),
-        Reopened::Opened {
-            session,
-            lines,
-            trailing,
-        } => {
-            let config = session.config;
-            let size = config.chunk_size;
-            let p = openmap_lines::put_opened(out, lines, session.active, session.count, trailing);
+        Ok(opened) => {
+            let session = opened.session;
+            let size = session.config.chunk_size;
+            let p = openmap_lines::put_opened(
+                out,
+                opened.lines,
+                session.active,
+                session.count,
+                opened.trailing,
+            );
             openmap_rows::put_map(out, p, cells, size)
         }
+        Err(refused) => openmap_lines::put_refused(out, refused.refusal.number(), refused.line),
     }
 }
 
@@ -60,14 +62,9 @@ fn lent_cells(journal: &[u8], held: usize) -> usize
     ensures { (result ≡ lent_cells journal.now held) × (result ≤ 4096) }
 {
     let mut words = [0u64; NUMBERS_MOST];
-    let opening = journal_open::open_journal(journal, held, &mut words);
-    match opening {
-        Opening::Refused { number: _, line: _ } => CELLS,
-        Opening::Opens {
-            header,
-            committed: _,
-            second: _,
-        } => lent_for(header),
+    match journal_open::open_journal(journal, held, &mut words) {
+        Ok(opening) => lent_for(opening.header),
+        Err(_) => CELLS,
     }
 }
 

@@ -11,10 +11,8 @@ fn put_row(out: &mut [u8], at: usize, cells: &[u16], size: usize, z: usize, y: u
     ensures { Appended out.old at (row_text size cells.now z y) out.new result }
 {
     let mut p = at;
-    let mut x: usize = 0;
-    while x < size {
+    for x in 0..size {
         p = openmap_lines::put_separated(out, p, x, grid::see(cells, size, x, y, z) as u64);
-        x += 1;
     }
     openmap_lines::put_byte(out, p, b'\n')
 }
@@ -25,10 +23,8 @@ fn put_layer(out: &mut [u8], at: usize, cells: &[u16], size: usize, z: usize) ->
     ensures { Appended out.old at (layer_text size cells.now z) out.new result }
 {
     let mut p = at;
-    let mut y: usize = 0;
-    while y < size {
+    for y in 0..size {
         p = put_row(out, p, cells, size, z, y);
-        y += 1;
     }
     p
 }
@@ -39,10 +35,8 @@ pub fn put_map(out: &mut [u8], at: usize, cells: &[u16], size: usize) -> usize
     ensures { Appended out.old at (map_text size cells.now) out.new result }
 {
     let mut p = at;
-    let mut z: usize = 0;
-    while z < size {
+    for z in 0..size {
         p = put_layer(out, p, cells, size, z);
-        z += 1;
     }
     p
 }

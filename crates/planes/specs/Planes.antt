@@ -1,17 +1,14 @@
 -- A chunk's cells as two planes of bytes, and back (SCOPE 5.12). Assumes nothing.
-use Rattle.std.specs.Prelude.{◌≡◌, refl, ℕ, zero, suc, ◌+◌, ◌*◌, ◌/◌, ◌%◌, ◌^◌, ◌<◌, Bool, ◌||◌, cond, List, [], ◌∷◌, ◌++◌, ltb, eqb, length, get_or}
-use Rattle.std.proofs.Common.{sym, ap}
+use Rattle.std.specs.Prelude.{◌≡◌, refl, ℕ, zero, suc, ◌+◌, ◌*◌, ◌/◌, ◌%◌, ◌^◌, ◌<◌, Bool, ◌||◌, cond, List, [], ◌∷◌, ◌++◌, ltb, eqb, length, get_or, Result, ⊤}
 use Rattle.grid.specs.Cube.{tab}
 use Rattle.config.specs.Refusals.{must, refusal}
-use Rattle.config.specs.Answers.{Answer, accepted, refused_with, never_both, unless_refused, CellsOutcome, done}
-use Rattle.planes.specs.declared.Copied.{Copied}
-use Rattle.planes.specs.declared.Copied.TheVariants as copied
+use Rattle.config.specs.Answers.{Answer, accepted, refused_with, says, says_same, unless_refused, CellsOutcome, done}
+use Rattle.config.specs.declared.refusals.Refusal.{Refusal}
 use Rattle.planes.specs.Order.{cell_at, position_of, volume}
 
 -- what is copied lies in the lent slice: no values
-abbrev pub says_copied : Copied → Answer
-says_copied copied.Done = accepted []
-says_copied (copied.Refused n) = refused_with n
+abbrev pub says_copied : Result ⊤ Refusal → Answer
+says_copied = says (λ (t : ⊤). [])
 
 -- ---- what is copied
 
@@ -79,8 +76,5 @@ Bytes b = (i : ℕ) → get_or b i 0 < 256
 -- ---- laws
 
 -- SCOPE 1.4: answers that say the same are the same
-pub same_copied : (a b : Copied) → says_copied a ≡ says_copied b → a ≡ b
-same_copied copied.Done copied.Done e = refl
-same_copied copied.Done (copied.Refused n) e = absurd (never_both [] n 0 e)
-same_copied (copied.Refused m) copied.Done e = absurd (never_both [] m 0 (sym e))
-same_copied (copied.Refused m) (copied.Refused n) e = let q : m ≡ n = cc in ap copied.Refused q
+pub same_copied : (a b : Result ⊤ Refusal) → says_copied a ≡ says_copied b → a ≡ b
+same_copied = says_same (λ (t : ⊤). []) (λ a b e. refl)

@@ -2,42 +2,32 @@
 #![tactic(auto)]
 
 ghost use Rattle.std.specs.Prelude.{◌≡◌};
+ghost use Rattle.config.specs.Numbers.{refusal_in};
 ghost use Rattle.planes.specs.Planes.{power_size, planes_refusal};
 
-use config::refusals::{LENGTH, OK, PLANES_BYTES, PLANES_SIZE};
+use config::Refusal;
 
-// Whether a copy was made, or a refusal.
-#[derive(Drop)]
-pub enum Copied {
-    Done,
-    Refused(u32),
-}
-
+// Whether a chunk of this size has planes.
+#[tactic(auto, unfolding(crate::specs::Planes::power_size))]
 fn power_size(size: usize) -> bool
     ensures { result ≡ power_size size }
 {
-    (size == 1)
-        | (size == 2)
-        | (size == 4)
-        | (size == 8)
-        | (size == 16)
-        | (size == 32)
-        | (size == 64)
+    matches!(size, 1 | 2 | 4 | 8 | 16 | 32 | 64)
 }
 
-// Refusal 28, 6 or 29 of a size, n cells and m bytes, or 0.
-pub fn refuse_planes(size: usize, n: usize, m: usize) -> u32
-    ensures { result ≡ planes_refusal size n m }
+// Refusal 28, 6 or 29 of a size, n cells and m bytes.
+pub fn refuse_planes(size: usize, n: usize, m: usize) -> Result<(), Refusal>
+    ensures { refusal_in result ≡ planes_refusal size n m }
 {
     if !power_size(size) {
-        return PLANES_SIZE;
+        return Err(Refusal::PlanesSize);
     }
     let volume = size * size * size;
     if n != volume {
-        return LENGTH;
+        return Err(Refusal::Length);
     }
     if m != 2 * volume {
-        return PLANES_BYTES;
+        return Err(Refusal::PlanesBytes);
     }
-    OK
+    Ok(())
 }

@@ -24,14 +24,13 @@ pub fn note_block(size: usize, table: &mut [usize])
     requires { (size ≤ 64) × (length table.old ≡ 64) }
     ensures { table.new ≡ tab 64 (block_cell size) }
 {
-    let mut j = 0;
-    while j < table.len() {
-        table[j] = block_cell(size, j);
-        j += 1;
+    for (j, cell) in table.iter_mut().enumerate() {
+        *cell = block_cell(size, j);
     }
 }
 
 // The first cell of the block that position m is in.
+#[tactic(auto, unfolding(crate::specs::Blocks::first_by))]
 pub fn first_of(table: &[usize], m: usize) -> usize
     requires { Table table.now × (m < 262144) }
     ensures { result ≡ first_by table.now m }

@@ -9,15 +9,14 @@ ghost use Rattle.planes.specs.Sizes.{Fit};
 ghost use Rattle.planes_blocks.specs.Blocks.{Blocks, Within, Span, BlockBytes};
 ghost use Rattle.planes_read.specs.Reading.{id_at, put_into, put_back};
 
-use config::refusals::OK;
-use planes::Copied;
+use config::Refusal;
 use planes_blocks::BLOCK;
 
 // The id that two bytes make.
 fn id_of(low: u8, high: u8) -> u16
     ensures { result ≡ low + 256 * high }
 {
-    low as u16 + 256 * (high as u16)
+    u16::from(low) + 256 * u16::from(high)
 }
 
 // Joins the bytes of w positions from m on: the low ones are there, the high ones n further on.
@@ -25,11 +24,9 @@ fn join_bytes(bytes: &[u8], n: usize, m: usize, w: usize, block: &mut [u16])
     requires { BlockBytes (length block.old) w n m (length bytes.now) }
     ensures { block.new ≡ tab w (λ (j : ℕ). id_at n bytes.now (m + j)) ++ drop w block.old }
 {
-    let mut j = 0;
-    while j < w {
+    for j in 0..w {
         let k = m + j;
         block[j] = id_of(bytes[k], bytes[n + k]);
-        j += 1;
     }
 }
 
@@ -38,16 +35,14 @@ fn put_cells(block: &[u16], table: &[usize], first: usize, w: usize, cells: &mut
     requires { Span table.now (length cells.old) first w × (length block.now ≡ 64) }
     ensures { cells.new ≡ steps w (put_into block.now table.now first) cells.old }
 {
-    let mut j = 0;
-    while j + 1 < w {
+    for p in 0..w / 2 {
+        let j = 2 * p;
         let i = first + table[j];
-        let a = block[j];
-        let b = block[j + 1];
-        cells[i] = a;
-        cells[i + 1] = b;
-        j += 2;
+        cells[i] = block[j];
+        cells[i + 1] = block[j + 1];
     }
-    if j < w {
+    if w % 2 == 1 {
+        let j = w - 1;
         let i = first + table[j];
         cells[i] = block[j];
     }
@@ -78,10 +73,8 @@ fn read_blocks(bytes: &[u8], table: &[usize], cells: &mut [u16])
         read_block(bytes, table, 0, n, cells);
         return;
     }
-    let mut m = 0;
-    while m < n {
-        read_block(bytes, table, m, BLOCK, cells);
-        m += BLOCK;
+    for k in 0..n / BLOCK {
+        read_block(bytes, table, k * BLOCK, BLOCK, cells);
     }
 }
 
@@ -95,13 +88,11 @@ fn read_planes(bytes: &[u8], size: usize, cells: &mut [u16])
 }
 
 // Restores the cells from their planes: all low bytes in Morton order, then all high bytes.
-pub fn from_planes(bytes: &[u8], size: usize, cells: &mut [u16]) -> Copied
+#[tactic(auto, using(planes::proofs::Sizes::planes_passed, config::specs::Answers::is_refused_by), unfolding(planes::specs::Planes::from_planes_does))]
+pub fn from_planes(bytes: &[u8], size: usize, cells: &mut [u16]) -> Result<(), Refusal>
     ensures { cells_outcome (says_copied result) cells.new ≡ from_planes_does size bytes.now cells.old }
 {
-    let k = planes::refuse_planes(size, cells.len(), bytes.len());
-    if k != OK {
-        return Copied::Refused(k);
-    }
+    planes::refuse_planes(size, cells.len(), bytes.len())?;
     read_planes(bytes, size, cells);
-    Copied::Done
+    Ok(())
 }

@@ -8,8 +8,7 @@ ghost use Rattle.planes.specs.Sizes.{Fit};
 ghost use Rattle.planes_blocks.specs.Blocks.{Blocks, Within, Span, BlockBytes};
 ghost use Rattle.planes_write.specs.Writing.{taken_from, put_bytes, put_cell};
 
-use config::refusals::OK;
-use planes::Copied;
+use config::Refusal;
 use planes_blocks::BLOCK;
 
 // Takes w cells of a block out, in the order of their positions, two that lie side by side at a time.
@@ -17,16 +16,16 @@ fn take_cells(cells: &[u16], table: &[usize], first: usize, w: usize, block: &mu
     requires { Span table.now (length cells.now) first w × (length block.old ≡ 64) }
     ensures { block.new ≡ tab w (taken_from cells.now table.now first) ++ drop w block.old }
 {
-    let mut j = 0;
-    while j + 1 < w {
+    for p in 0..w / 2 {
+        let j = 2 * p;
         let i = first + table[j];
         let a = cells[i];
         let b = cells[i + 1];
         block[j] = a;
         block[j + 1] = b;
-        j += 2;
     }
-    if j < w {
+    if w % 2 == 1 {
+        let j = w - 1;
         let i = first + table[j];
         block[j] = cells[i];
     }
@@ -37,13 +36,11 @@ fn put_bytes(block: &[u16], w: usize, n: usize, m: usize, bytes: &mut [u8])
     requires { BlockBytes (length block.now) w n m (length bytes.old) }
     ensures { bytes.new ≡ steps w (put_bytes block.now n m) bytes.old }
 {
-    let mut j = 0;
-    while j < w {
+    for j in 0..w {
         let id = block[j];
         let k = m + j;
         bytes[k] = (id % 256) as u8;
         bytes[n + k] = (id / 256) as u8;
-        j += 1;
     }
 }
 
@@ -58,7 +55,7 @@ fn write_block(cells: &[u16], table: &[usize], m: usize, w: usize, bytes: &mut [
     put_bytes(&block, w, cells.len(), m, bytes);
 }
 
-// Writes the bytes of all positions.
+// Writes the bytes of all positions. `planes_read` goes the same way back: what both share is this one `for`, shorter than a closure that writes.
 fn write_blocks(cells: &[u16], table: &[usize], bytes: &mut [u8])
     requires { Blocks table.now (length cells.now) × (length bytes.old ≡ 2 * length cells.now) }
     ensures { bytes.new ≡ steps (length cells.now) (put_cell table.now cells.now) bytes.old }
@@ -68,10 +65,8 @@ fn write_blocks(cells: &[u16], table: &[usize], bytes: &mut [u8])
         write_block(cells, table, 0, n, bytes);
         return;
     }
-    let mut m = 0;
-    while m < n {
-        write_block(cells, table, m, BLOCK, bytes);
-        m += BLOCK;
+    for k in 0..n / BLOCK {
+        write_block(cells, table, k * BLOCK, BLOCK, bytes);
     }
 }
 
@@ -85,13 +80,11 @@ fn write_planes(cells: &[u16], size: usize, bytes: &mut [u8])
 }
 
 // Copies the cells out: all low bytes in Morton order, then all high bytes.
-pub fn to_planes(cells: &[u16], size: usize, bytes: &mut [u8]) -> Copied
+#[tactic(auto, using(planes::proofs::Sizes::planes_passed, config::specs::Answers::is_refused_by), unfolding(planes::specs::Planes::to_planes_does))]
+pub fn to_planes(cells: &[u16], size: usize, bytes: &mut [u8]) -> Result<(), Refusal>
     ensures { planes_outcome (says_copied result) bytes.new ≡ to_planes_does size cells.now bytes.old }
 {
-    let k = planes::refuse_planes(size, cells.len(), bytes.len());
-    if k != OK {
-        return Copied::Refused(k);
-    }
+    planes::refuse_planes(size, cells.len(), bytes.len())?;
     write_planes(cells, size, bytes);
-    Copied::Done
+    Ok(())
 }

@@ -12,7 +12,7 @@ use Rattle.journal_format.proofs.RoundTrip.{header_no_lf}
 use Rattle.session_calls.specs.Calls.{Outcome, Recorded, Begun, session_fresh_does, Resumed, resumed}
 use Rattle.session_calls.specs.Checkpoints.{beside_cells}
 use Rattle.session_calls.specs.declared.Reply.{Reply}
-use Rattle.session_calls.specs.declared.Reopened.TheVariants.{Refused}
+use Rattle.session_calls.specs.Reopened.{Refused}
 use Rattle.takeover_model.specs.Model.{Call, model_fresh, model_run}
 use Rattle.takeover_model.specs.Model as M
 use Rattle.takeover_model.specs.Statement.{Tablet, tablet, used_bytes, does, leaves, Alike, AsModel, Laid, CutAt}
@@ -22,7 +22,7 @@ use Rattle.takeover_model.specs.Open.{Fresher}
 use Rattle.takeover_model.proofs.Open.{fresh_holds, reopens_none}
 use Rattle.takeover_model.specs.Takeover.{Taken, Along}
 use Rattle.takeover_model.proofs.Takeover.{taken, first_cut, along, as_model, laid_on, same_replies}
-use Rattle.takeover.specs.AsMade.{noted, Made, none, set, column, batch, undo, checkpoint, restore, form, after, gave, First, began, Second, resumes}
+use Rattle.takeover.specs.AsMade.{noted, Made, none, set, column, batch, undo, checkpoint, restore, form, after, gave, First, began, Second, reopens, resumes}
 use Rattle.takeover.specs.Demand.{model, first_line, TakenOver, TakeoverTheorem}
 
 -- ---- what was made is what `run` and `replies` say
@@ -113,7 +113,7 @@ module _ (f : First) {calls : List Call} {rs : List Reply} {t : Tablet} (made : 
         let l : length o.journal.now ≤ 32768 =
         (let s = (beside f calls).good.short in omega (arith, cut_run.journal ∙ (beside f calls).holds.bytes.long)) in
         let e : resumed o.answer o.cells'.now ≡ resumed (Refused 10 0) o.cells.now =
-        o.gives
+        reopens o
         ∙ reopens_none o.cells.now o.journal.now o.held l cut.within
         (subst NoLF (sym cut_run.bytes) (no_lf_append (take q (run (began f) calls).journal) tail n cut.no_lf_lem)) in
         (ap (λ (r : Resumed). r.answer) e, ap (λ (r : Resumed). r.cells) e)
@@ -123,7 +123,7 @@ module _ (f : First) {calls : List Call} {rs : List Reply} {t : Tablet} (made : 
         let k : Taken (began f) calls confirmed q o.cells.now o.journal.now o.held =
         taken (model f) (began f) (start f).good (holds f) calls confirmed q tail o.cells.now o.journal.now o.held
         (subst (λ (b : List ℕ). length b ≤ q) (sym (first_bytes f)) h) cut_run in
-        let e = o.gives ∙ k.answer in
+        let e = reopens o ∙ k.answer in
         let cells : o.cells'.now ≡ k.cells = ap (λ (r : Resumed). r.cells) e in
         let second : resumes o k.session ≡ tablet k.session k.cells o.journal.now =
         ap (λ (c : List ℕ). tablet k.session c o.journal.now) cells in

@@ -4,7 +4,7 @@ use Rattle.std.specs.Prelude.{List, ℕ, take}
 use Rattle.std.proofs.Common.{sym, ◌∙◌, ap, subst}
 use Rattle.session_calls.specs.Calls.{resumed}
 use Rattle.session_calls.specs.declared.Reply.{Reply}
-use Rattle.session_calls.specs.declared.Reopened.{Reopened}
+use Rattle.session_calls.specs.Reopened.{Reopened}
 use Rattle.takeover_model.specs.Model.{Call, Model, model_run}
 use Rattle.takeover_model.specs.Statement.{Tablet}
 use Rattle.takeover_model.specs.Run.{run}
@@ -13,7 +13,7 @@ use Rattle.takeover_model.proofs.Opened.{opened_start}
 use Rattle.takeover_model.proofs.Takeover.{along, same_replies}
 use Rattle.takeover_model.specs.Alters.{NoIdleLine, UndosAlter, NoIdle}
 use Rattle.takeover_model.proofs.Alters.{fresh_no_idle, run_no_idle, undos_alter, held_no_idle, model_no_idle, alike_no_idle}
-use Rattle.takeover.specs.AsMade.{Made, after, Second, resumes}
+use Rattle.takeover.specs.AsMade.{Made, after, Second, reopens, resumes}
 use Rattle.takeover.specs.Demand.{model, TakenOver}
 use Rattle.takeover.proofs.Theorem.{ran, after_ran, start, holds}
 use Rattle.takeover.specs.Undos.{Start, UndoTheorem, fresh, reopened}
@@ -30,7 +30,7 @@ begins : (t : Tablet) → Start t → Begins t
 begins t (fresh f) = record { from = model f; good = (start f).good; holds = holds f; no_idle = fresh_no_idle _ _ _ }
 begins t (reopened o s lines trailing a p) =
     let b = opened_start o.cells.now o.journal.now o.held lines trailing s o.cells'.now
-    (sym o.gives ∙ ap (λ (x : Reopened). resumed x o.cells'.now) a) in
+    (sym (reopens o) ∙ ap (λ (x : Reopened). resumed x o.cells'.now) a) in
     record { from = b.model; good = b.good; holds = b.holds; no_idle = model_no_idle b.model (resumes o s) b.good b.holds p }
 
 pub undo_alters : UndoTheorem

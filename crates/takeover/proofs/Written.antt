@@ -13,8 +13,8 @@ use Rattle.journal_format.specs.Journal.{lines, committed, Active, none_active, 
 use Rattle.session_calls.specs.Calls.{resumed, config_of, pos_of, session_reopen_does}
 use Rattle.session_calls.specs.FirstLine.{text_back}
 use Rattle.session_calls.specs.declared.Session.{Session}
-use Rattle.session_calls.specs.declared.Reopened.{Reopened}
-use Rattle.session_calls.specs.declared.Reopened.TheVariants.{Opened}
+use Rattle.session_calls.specs.Reopened.{Reopened}
+use Rattle.session_calls.specs.Reopened.{Opened}
 use Rattle.takeover_model.specs.Model.{Model, model_size}
 use Rattle.takeover_model.specs.Statement.{later_lines}
 use Rattle.takeover_model.proofs.Opened.{opened_start}

@@ -7,7 +7,7 @@ use Rattle.journal_format.specs.Line.{header_text, ended}
 use Rattle.journal_format.specs.Journal as J
 use Rattle.session_calls.specs.declared.Session.{Session}
 use Rattle.session_calls.specs.declared.Reply.{Reply}
-use Rattle.session_calls.specs.declared.Reopened.TheVariants.{Opened, Refused}
+use Rattle.session_calls.specs.Reopened.{Opened, Refused}
 use Rattle.takeover_model.specs.Model.{Call, Model, model_fresh, model_run, model_replies}
 use Rattle.takeover_model.specs.Statement.{Tablet, used_bytes, Alike, AsModel, Laid, CutAt}
 use Rattle.takeover.specs.AsMade.{Made, after, First, began, Second, resumes}

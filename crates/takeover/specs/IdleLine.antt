@@ -3,7 +3,7 @@
 use Rattle.std.specs.Prelude.{◌≡◌, [], ◌∷◌, ℕ}
 use Rattle.session_calls.specs.Calls.{accepted}
 use Rattle.session_calls.specs.declared.Session.{Session}
-use Rattle.session_calls.specs.declared.Reopened.TheVariants.{Opened}
+use Rattle.session_calls.specs.Reopened.{Opened}
 use Rattle.takeover_model.specs.Model.{undo}
 use Rattle.takeover.specs.AsMade.{Second, resumes}
 use Rattle.takeover.specs.Witness.{Makes}

@@ -3,7 +3,7 @@
 use Rattle.std.specs.Prelude.{◌≡◌, List, ℕ}
 use Rattle.session_calls.specs.declared.Session.{Session}
 use Rattle.session_calls.specs.declared.Reply.{Reply}
-use Rattle.session_calls.specs.declared.Reopened.TheVariants.{Opened}
+use Rattle.session_calls.specs.Reopened.{Opened}
 use Rattle.takeover_model.specs.Model.{Call}
 use Rattle.takeover_model.specs.Statement.{Tablet}
 use Rattle.takeover_model.specs.Alters.{NoIdleLine, UndosAlter}

@@ -5,14 +5,15 @@ use Rattle.std.proofs.Common.{sym, ap}
 use contract.Lifetimes.{Lfts}
 use Rattle.config.specs.declared.TerrainConfig.{TerrainConfig}
 use Rattle.config.specs.declared.ChunkPos.{ChunkPos}
-use Rattle.session_calls.specs.declared.Fresh.{Fresh}
-use Rattle.session_calls.specs.declared.Fresh.TheVariants.{Started}
+use Rattle.session_calls.specs.Fresh.{Fresh, Started}
+use Rattle.session_calls.proofs.Answered.{Answered, reopen_answered}
 use Rattle.session_calls.specs.declared.Reply.{Reply}
 use Rattle.session_calls.specs.declared.Session.{Session}
-use Rattle.session_calls.specs.Calls.{Outcome, begun, session_fresh_does, session_reopen_does}
+use Rattle.session_calls.specs.Calls.{Outcome, begun, Resumed, resumed, session_fresh_does, session_reopen_does}
+use Rattle.session_calls.specs.Reopened.{Reopened}
 use Rattle.takeover_model.specs.Model.{Call}
 use Rattle.takeover_model.specs.Statement.{Tablet}
-use Rattle.takeover.specs.AsMade.{Lent, Shown, Turn, Note, Made, First, Second}
+use Rattle.takeover.specs.AsMade.{Lent, Held, Shown, Turn, Note, Made, First, Second}
 
 -- a slice somewhere that holds these numbers, to be written, and to be read
 abbrev pub holding : List ℕ → Lent
@@ -21,29 +22,38 @@ holding ns = record { ref_ptr = (0, 0); ghost_name = 0; now = ns }
 abbrev pub showing : List ℕ → Shown
 showing ns = record { ref_ptr = (0, 0); now = ns }
 
+-- .. and a record
+abbrev pub keeping : Session → Held
+keeping s = record { ref_ptr = (0, 0); ghost_name = 0; now = s }
+
 abbrev pub two : Lfts 2
 two = ([], ([], tt))
 
 abbrev pub three : Lfts 3
 three = ([], ([], ([], tt)))
 
+abbrev pub four : Lfts 4
+four = ([], ([], ([], ([], tt))))
+
 -- a call on a tablet with this outcome
-abbrev pub turn : Tablet → Outcome → Turn
-turn t o = record {
-  session = t.session;
+abbrev pub turn : Tablet → (o : Outcome) → Answered o.reply → Turn
+turn t o a = record {
+  session = keeping t.session;
   cells = holding t.cells;
   journal = holding t.journal;
-  answer = record { session = o.session; reply = o.reply };
+  answer = a.answer;
+  session' = keeping o.session;
   cells' = holding o.cells;
   journal' = holding o.journal;
 }
 
 -- .. one that is lent no cells
-abbrev pub note : Tablet → Outcome → Note
-note t o = record {
-  session = t.session;
+abbrev pub note : Tablet → (o : Outcome) → Answered o.reply → Note
+note t o a = record {
+  session = keeping t.session;
   journal = holding t.journal;
-  answer = record { session = o.session; reply = o.reply };
+  answer = a.answer;
+  session' = keeping o.session;
   journal' = holding o.journal;
 }
 
@@ -71,12 +81,17 @@ first config place c j s e =
 
 -- every journal has a second tablet that reopens it
 abbrev pub second : (c j : List ℕ) (held : ℕ) → Second
-second c j held = record {
-  lifetimes = two;
-  cells = holding c;
-  journal = showing j;
-  held = held;
-  answer = (session_reopen_does c j held).answer;
-  cells' = holding (session_reopen_does c j held).cells;
-  gives = refl;
-}
+second c j held =
+    let o = session_reopen_does c j held in
+    let a = reopen_answered c j held in
+    record {
+      lifetimes = two;
+      cells = holding c;
+      journal = showing j;
+      held = held;
+      result = a.result;
+      answer = o.answer;
+      says = a.says;
+      cells' = holding o.cells;
+      gives = ap (λ (x : Reopened). resumed x o.cells) a.says;
+    }

@@ -11,14 +11,12 @@
 // the cells. The journal's text stands at the end. The expected output was worked out from SCOPE, without the library.
 #![tactic(auto)]
 
-ghost use Rattle.std.specs.Prelude.{◌≤◌, length};
-
-use config::{ChunkPos, TerrainConfig};
+use config::{ChunkPos, Refusal, TerrainConfig};
 use host_starts::{fresh_start, reopen_start};
-use session_calls::{Edited, Session};
+use session_calls::{Reply, Session, Told};
 use std::io;
 use std::io::Print;
-use test_vectors::{show_ids, show_next};
+use test_vectors::{show_all, show_next};
 
 // As long as the lines of all accepted calls.
 const JOURNAL: usize = 248;
@@ -28,30 +26,21 @@ fn show(
     rt: &impl Print,
     number: u32,
     altered: usize,
-    s: Session,
+    session: &Session,
     cells: &[u16; 8],
-) -> io::Result<Session> {
+) -> io::Result<()> {
     print!(rt; "{number}")?;
-    show_next(rt, altered as u64)?;
-    show_next(rt, s.count as u64)?;
-    show_next(rt, s.used as u64)?;
-    show_next(rt, s.active as u64)?;
-    show_ids(rt, cells)?;
-    println!(rt)?;
-    Ok(s)
-}
-
-fn wide(byte: u8) -> u32 {
-    byte as u32
+    show_next(rt, altered)?;
+    show_next(rt, session.count)?;
+    show_next(rt, session.used)?;
+    show_next(rt, session.active)?;
+    show_all(rt, cells)?;
+    println!(rt)
 }
 
 // The digit at a place, or 0.
 fn digit(text: &[u8], i: usize) -> u32 {
-    if i < text.len() {
-        wide(text[i]) & 15
-    } else {
-        0
-    }
+    text.get(i).map_or(0, |b| u32::from(*b) & 15)
 }
 
 fn index(n: u32) -> usize {
@@ -62,114 +51,74 @@ fn low(n: u32) -> u16 {
     (n % 65536) as u16
 }
 
-fn put(s: Session, cells: &mut [u16; 8], journal: &mut [u8; JOURNAL], text: &[u8]) -> Edited {
+fn put(
+    session: &mut Session,
+    cells: &mut [u16; 8],
+    journal: &mut [u8; JOURNAL],
+    text: &[u8],
+) -> Result<Told, Refusal> {
     let x = index(digit(text, 0));
     let y = index(digit(text, 1));
     let z = index(digit(text, 2));
-    session_edit::set(s, cells, journal, x, y, z, low(digit(text, 3)))
+    session_edit::set(session, cells, journal, x, y, z, low(digit(text, 3)))
 }
 
-fn few(s: Session, journal: &mut [u8; JOURNAL], name: &[u8]) -> Edited {
+fn few(session: &mut Session, journal: &mut [u8; JOURNAL], name: &[u8]) -> Result<Told, Refusal> {
     let mut cells = [5u16; 7];
-    session_restore::restore(s, &mut cells, journal, name)
+    session_restore::restore(session, &mut cells, journal, name)
 }
 
 fn make(
     kind: u8,
-    s: Session,
+    session: &mut Session,
     cells: &mut [u16; 8],
     journal: &mut [u8; JOURNAL],
     text: &[u8],
-) -> Edited {
-    if kind == b'S' {
-        put(s, cells, journal, text)
-    } else if kind == b'U' {
-        session_undo::undo(s, cells, journal)
-    } else if kind == b'M' {
-        session_checkpoint::checkpoint(s, journal, text)
-    } else if kind == b'R' {
-        session_restore::restore(s, cells, journal, text)
-    } else {
-        few(s, journal, text)
+) -> Result<Told, Refusal> {
+    match kind {
+        b'S' => put(session, cells, journal, text),
+        b'U' => session_undo::undo(session, cells, journal),
+        b'M' => session_checkpoint::checkpoint(session, journal, text),
+        b'R' => session_restore::restore(session, cells, journal, text),
+        _ => few(session, journal, text),
     }
 }
 
-// Makes the call that a word says, and hands the record on.
+// Makes the call that a word says, and shows what it told.
 fn call(
     rt: &impl Print,
     kind: u8,
-    s: Session,
+    session: &mut Session,
     cells: &mut [u16; 8],
     journal: &mut [u8; JOURNAL],
     text: &[u8],
-) -> io::Result<Session> {
-    let mut next = s;
+) -> io::Result<()> {
     if kind == b'A' {
-        next.active = index(digit(text, 0));
-        return Ok(next);
+        session.active = index(digit(text, 0));
+        return Ok(());
     }
     if kind == b'C' {
-        next.count = digit(text, 0);
-        return Ok(next);
+        session.count = digit(text, 0);
+        return Ok(());
     }
-    let e = make(kind, s, cells, journal, text);
-    let r = e.reply;
-    show(rt, r.refusal, r.altered, e.session, cells)
-}
-
-// The word from a position to before another.
-fn word(
-    rt: &impl Print,
-    s: Session,
-    cells: &mut [u16; 8],
-    journal: &mut [u8; JOURNAL],
-    text: &[u8],
-    at: usize,
-    end: usize,
-) -> io::Result<Session> {
-    if at < text.len() {
-        let from = at + 2;
-        if from <= end {
-            if end <= text.len() {
-                return call(rt, text[at], s, cells, journal, &text[from..end]);
-            }
-        }
-    }
-    Ok(s)
-}
-
-// The place of the next blank from a position on, or the text's length.
-fn blank(text: &[u8], from: usize) -> usize
-    requires { from ≤ length text.now }
-    ensures low { from ≤ result }
-    ensures high { result ≤ length text.now }
-{
-    let mut at = from;
-    while at < text.len() {
-        if text[at] == b' ' {
-            return at;
-        }
-        at += 1;
-    }
-    at
+    let reply = Reply::from(make(kind, session, cells, journal, text));
+    show(rt, reply.refusal, reply.altered, session, cells)
 }
 
 // The words of a text, one after the other.
 fn run(
     rt: &impl Print,
     text: &[u8],
-    first: Session,
+    session: &mut Session,
     cells: &mut [u16; 8],
     journal: &mut [u8; JOURNAL],
-) -> io::Result<Session> {
-    let mut s = first;
-    let mut at = 0;
-    while at < text.len() {
-        let end = blank(text, at);
-        s = word(rt, s, cells, journal, text, at, end)?;
-        at = end + 1;
+) -> io::Result<()> {
+    for word in text.split(|b| *b == b' ') {
+        if let [kind, _, name @ ..] = word {
+            call(rt, *kind, session, cells, journal, name)?;
+        }
     }
-    Ok(s)
+    Ok(())
 }
 
 fn begin(
@@ -189,63 +138,35 @@ fn begin(
         cz: 0,
     };
     let start = fresh_start(session_fresh::fresh(config, pos, cells, journal));
-    show(rt, start.number, 0, start.session, cells)
+    show(rt, start.number, 0, &start.session, cells)?;
+    Ok(start.session)
 }
+
+// The calls in the first map.
+const CALLS: [&str; 6] = [
+    // The second restore alters nothing; the undo takes back the last edit that came back with it.
+    "M:g0 S:0001 S:1001 M:walls S:0108 S:1100 R:walls R:walls U:",
+    // A checkpoint after a restore; the bare ground, with nothing to undo; a name that is moved; names that a restore to an older one leaves.
+    "S:1019 M:roof1 R:g0 U: R:roof1 M:g0 U: R:g0 R:walls R:roof1",
+    // An unknown name; no byte, a capital letter, 17 bytes.
+    "R:roof M: R: M:Roof1 R:Roof1 M:a0z9a0z9a0z9a0z9a R:a0z9a0z9a0z9a0z9a",
+    // Another number of active edits: found behind a bad name, before an unknown one. A count above 8, seven cells: found before a bad name.
+    "A:9 M:walls R:walls M:Roof1 R:roof A:2 C:9 M:Roof1 R:Roof1 C:8 F:Roof1 F:walls",
+    // Thirteen names beside the three that there are, and one too many.
+    "M:a0z9a0z9a0z9a0z9 M:a M:b M:c M:d M:e M:f M:g M:h M:i M:j M:k M:l M:m",
+    // One of the 16 is moved. Then four bytes are left, too few for a name of two: found behind 27 and 26. The last restore fills the journal.
+    "S:0017 M:b S:1110 M:g0 R:g0 M:m2 R:m2 R:b M:a R:a S:0113",
+];
 
 fn calls(
     rt: &impl Print,
-    first: Session,
+    session: &mut Session,
     cells: &mut [u16; 8],
     journal: &mut [u8; JOURNAL],
 ) -> io::Result<()> {
-    // The second restore alters nothing; the undo takes back the last edit that came back with it.
-    let mut s = run(
-        rt,
-        b"M:g0 S:0001 S:1001 M:walls S:0108 S:1100 R:walls R:walls U:",
-        first,
-        cells,
-        journal,
-    )?;
-    // A checkpoint after a restore; the bare ground, with nothing to undo; a name that is moved; names that a restore to an older one leaves.
-    s = run(
-        rt,
-        b"S:1019 M:roof1 R:g0 U: R:roof1 M:g0 U: R:g0 R:walls R:roof1",
-        s,
-        cells,
-        journal,
-    )?;
-    // An unknown name; no byte, a capital letter, 17 bytes.
-    s = run(
-        rt,
-        b"R:roof M: R: M:Roof1 R:Roof1 M:a0z9a0z9a0z9a0z9a R:a0z9a0z9a0z9a0z9a",
-        s,
-        cells,
-        journal,
-    )?;
-    // Another number of active edits: found behind a bad name, before an unknown one. A count above 8, seven cells: found before a bad name.
-    s = run(
-        rt,
-        b"A:9 M:walls R:walls M:Roof1 R:roof A:2 C:9 M:Roof1 R:Roof1 C:8 F:Roof1 F:walls",
-        s,
-        cells,
-        journal,
-    )?;
-    // Thirteen names beside the three that there are, and one too many.
-    s = run(
-        rt,
-        b"M:a0z9a0z9a0z9a0z9 M:a M:b M:c M:d M:e M:f M:g M:h M:i M:j M:k M:l M:m",
-        s,
-        cells,
-        journal,
-    )?;
-    // One of the 16 is moved. Then four bytes are left, too few for a name of two: found behind 27 and 26. The last restore fills the journal.
-    run(
-        rt,
-        b"S:0017 M:b S:1110 M:g0 R:g0 M:m2 R:m2 R:b M:a R:a S:0113",
-        s,
-        cells,
-        journal,
-    )?;
+    for text in CALLS {
+        run(rt, text.as_bytes(), session, cells, journal)?;
+    }
     Ok(())
 }
 
@@ -253,15 +174,16 @@ fn calls(
 fn take_over(rt: &impl Print, journal: &mut [u8; JOURNAL]) -> io::Result<()> {
     let mut cells = [0u16; 8];
     let start = reopen_start(session_reopen::reopen(&mut cells, journal, JOURNAL - 2));
-    let s = show(rt, start.number, 0, start.session, &cells)?;
-    run(rt, b"R:c", s, &mut cells, journal)?;
+    let mut session = start.session;
+    show(rt, start.number, 0, &session, &cells)?;
+    run(rt, b"R:c", &mut session, &mut cells, journal)?;
     rt.write_all(journal)
 }
 
 fn main(rt: HostRuntime) -> io::Result<()> {
     let mut cells = [0u16; 8];
     let mut journal = [0u8; JOURNAL];
-    let s = begin(&rt, &mut cells, &mut journal)?;
-    calls(&rt, s, &mut cells, &mut journal)?;
+    let mut session = begin(&rt, &mut cells, &mut journal)?;
+    calls(&rt, &mut session, &mut cells, &mut journal)?;
     take_over(&rt, &mut journal)
 }

@@ -7,28 +7,23 @@
 ghost use Rattle.std.specs.Prelude.{◌≤◌};
 
 use config::{ChunkPos, TerrainConfig};
-use ground::Generated;
 use std::io;
 use std::io::Print;
-
-fn index(n: u32) -> usize {
-    n as usize
-}
 
 // The line of a chunk. Sizes up to 5 have at most 125 cells.
 fn answer(rt: &impl Print, count: u32, cells: &[u16]) -> io::Result<()> {
     print!(rt; "{count}")?;
-    test_vectors::show_next(rt, test_vectors::checksum(cells) as u64)?;
+    test_vectors::show_next(rt, test_vectors::checksum(cells))?;
     if cells.len() <= 125 {
-        test_vectors::show_ids(rt, cells)?;
+        test_vectors::show_all(rt, cells)?;
     }
     println!(rt)
 }
 
 fn lay(rt: &impl Print, config: TerrainConfig, pos: ChunkPos, cells: &mut [u16]) -> io::Result<()> {
     match ground::generate(config, pos, cells) {
-        Generated::Count(n) => answer(rt, n, cells),
-        Generated::Refused(_) => refused(rt),
+        Ok(n) => answer(rt, n, cells),
+        Err(_) => refused(rt),
     }
 }
 
@@ -53,46 +48,27 @@ fn lay_in(rt: &impl Print, config: TerrainConfig, pos: ChunkPos, n: usize) -> io
 
 // Lays the chunk of one line.
 fn chunk(rt: &impl Print, list: &[u32; 7]) -> io::Result<()> {
-    let size = index(list[3]);
+    let [seed, sea_level, world_height, size, cx, cy, cz] = *list;
+    let size = size as usize;
     if size > 64 {
         return refused(rt);
     }
     let config = TerrainConfig {
-        seed: list[0],
-        sea_level: num_core::wrap::of_bits(list[1]),
-        world_height_blocks: num_core::wrap::of_bits(list[2]),
+        seed,
+        sea_level: sea_level.cast_signed(),
+        world_height_blocks: world_height.cast_signed(),
         chunk_size: size,
     };
     let pos = ChunkPos {
-        cx: num_core::wrap::of_bits(list[4]),
-        cy: num_core::wrap::of_bits(list[5]),
-        cz: num_core::wrap::of_bits(list[6]),
+        cx: cx.cast_signed(),
+        cy: cy.cast_signed(),
+        cz: cz.cast_signed(),
     };
     lay_in(rt, config, pos, volume(size))
-}
-
-// Answers the line that begins at a position, and where the next one begins.
-fn row(rt: &impl Print, text: &[u8], from: usize) -> io::Result<usize> {
-    let mut list = [0u32; 7];
-    let next = test_vectors::seven(text, from, &mut list);
-    chunk(rt, &list)?;
-    Ok(next)
-}
-
-fn rows(rt: &impl Print, text: &[u8]) -> io::Result<()> {
-    let mut at = 0;
-    while at < text.len() {
-        let next = row(rt, text, at)?;
-        if next <= at {
-            return Ok(());
-        }
-        at = next;
-    }
-    Ok(())
 }
 
 fn main(rt: HostRuntime) -> io::Result<()> {
     let mut text = test_vectors::text_room();
     let n = test_vectors::read_text(&rt, &mut text)?;
-    rows(&rt, &text[..n])
+    test_vectors::each_line(&text[..n], |list| chunk(&rt, list))
 }

@@ -38,34 +38,15 @@ fn noises(rt: &impl Print, x: f32, y: f32, z: f32, octaves: u32) -> io::Result<(
     show(rt, noise::fbm3d(x, y, z, octaves), '\n')
 }
 
-// Answers the line that begins at a position, and where the next one begins.
-fn row(rt: &impl Print, text: &[u8], from: usize) -> io::Result<usize> {
-    let mut list = [0u32; 7];
-    let next = test_vectors::seven(text, from, &mut list);
-    hashes(
-        rt,
-        num_core::wrap::of_bits(list[0]),
-        num_core::wrap::of_bits(list[1]),
-        num_core::wrap::of_bits(list[2]),
-    )?;
-    noises(rt, float(list[3]), float(list[4]), float(list[5]), list[6])?;
-    Ok(next)
-}
-
-fn rows(rt: &impl Print, text: &[u8]) -> io::Result<()> {
-    let mut at = 0;
-    while at < text.len() {
-        let next = row(rt, text, at)?;
-        if next <= at {
-            return Ok(());
-        }
-        at = next;
-    }
-    Ok(())
+// Answers one line.
+fn row(rt: &impl Print, list: &[u32; 7]) -> io::Result<()> {
+    let [x, y, z, fx, fy, fz, octaves] = *list;
+    hashes(rt, x.cast_signed(), y.cast_signed(), z.cast_signed())?;
+    noises(rt, float(fx), float(fy), float(fz), octaves)
 }
 
 fn main(rt: HostRuntime) -> io::Result<()> {
     let mut text = test_vectors::text_room();
     let n = test_vectors::read_text(&rt, &mut text)?;
-    rows(&rt, &text[..n])
+    test_vectors::each_line(&text[..n], |list| row(&rt, list))
 }

@@ -13,10 +13,10 @@
 #![tactic(auto)]
 
 use host_starts::reopen_start;
-use session_calls::{Edited, Reply, Session};
+use session_calls::{Reply, Session};
 use std::io;
 use std::io::Print;
-use test_vectors::{show_ids, show_next, wide_id};
+use test_vectors::{each_line, show_all, show_next};
 
 // As long as the first line's 23 bytes, 258 sets of one cell and three undos: then it is full.
 const JOURNAL: usize = 23 + 258 * 10 + 3 * 2;
@@ -30,21 +30,18 @@ fn low(n: u32) -> u16 {
 }
 
 // What a call told, and the record and the cells after it.
-fn show(rt: &impl Print, e: Edited, cells: &[u16; 8]) -> io::Result<Session> {
-    let r = e.reply;
-    let s = e.session;
-    let refusal = r.refusal;
+fn show(rt: &impl Print, reply: Reply, session: &Session, cells: &[u16; 8]) -> io::Result<()> {
+    let refusal = reply.refusal;
     print!(rt; "{refusal}")?;
-    show_next(rt, r.line as u64)?;
-    show_next(rt, r.written as u64)?;
-    show_next(rt, wide_id(r.previous) as u64)?;
-    show_next(rt, r.altered as u64)?;
-    show_next(rt, s.count as u64)?;
-    show_next(rt, s.used as u64)?;
-    show_next(rt, s.active as u64)?;
-    show_ids(rt, cells)?;
-    println!(rt)?;
-    Ok(s)
+    show_next(rt, reply.line)?;
+    show_next(rt, reply.written)?;
+    show_next(rt, reply.previous)?;
+    show_next(rt, reply.altered)?;
+    show_next(rt, session.count)?;
+    show_next(rt, session.used)?;
+    show_next(rt, session.active)?;
+    show_all(rt, cells)?;
+    println!(rt)
 }
 
 // The first n bytes of the journal, and a line's end.
@@ -56,150 +53,112 @@ fn show_text(rt: &impl Print, journal: &[u8], n: usize) -> io::Result<()> {
     Ok(())
 }
 
-// The record with an answer that tells nothing.
-fn untold(session: Session, refusal: u32, line: usize) -> Edited {
-    let reply = Reply {
+// An answer that tells nothing.
+fn untold(refusal: u32, line: usize) -> Reply {
+    Reply {
         refusal,
         line,
         written: 0,
         previous: 0,
         altered: 0,
-    };
-    Edited { session, reply }
+    }
 }
 
-fn batch(s: Session, cells: &mut [u16; 8], journal: &mut [u8; JOURNAL], list: &[u32; 7]) -> Edited {
+fn batch(
+    session: &mut Session,
+    cells: &mut [u16; 8],
+    journal: &mut [u8; JOURNAL],
+    list: &[u32; 7],
+) -> Reply {
     let a = list[1];
     let b = list[2];
     let c = list[3];
     let edits = [a, b, c, list[4], 2, 0, 0, 1, a, b, c, list[5], list[6]];
-    session_batch::set_blocks(s, cells, journal, &edits)
+    Reply::from(session_batch::set_blocks(session, cells, journal, &edits))
 }
 
-// A press on (0, 0, 0), and the same once more.
-fn press_twice(s: Session, cells: &mut [u16; 8], journal: &mut [u8; JOURNAL], id: u16) -> Session {
-    let first = session_edit::set(s, cells, journal, 0, 0, 0, id);
-    let again = session_edit::set(first.session, cells, journal, 0, 0, 0, id);
-    again.session
-}
-
+// Presses on (0, 0, 0), each made once more. Some are refused.
 fn press_in_turn(
-    s: Session,
+    session: &mut Session,
     cells: &mut [u16; 8],
     journal: &mut [u8; JOURNAL],
     n: usize,
-) -> Session {
-    let mut now = s;
-    let mut i = 0;
-    while i < n {
+) -> Reply {
+    for i in 0..n {
         let id = if i % 2 == 0 { 9 } else { 5 };
-        now = press_twice(now, cells, journal, id);
-        i += 1;
+        let _ = session_edit::set(session, cells, journal, 0, 0, 0, id);
+        let _ = session_edit::set(session, cells, journal, 0, 0, 0, id);
     }
-    now
+    untold(0, 0)
 }
 
 fn edit(
     kind: u32,
-    s: Session,
+    session: &mut Session,
     cells: &mut [u16; 8],
     journal: &mut [u8; JOURNAL],
     list: &[u32; 7],
-) -> Edited {
+) -> Reply {
     if kind == 3 {
-        return batch(s, cells, journal, list);
+        return batch(session, cells, journal, list);
     }
     let a = index(list[1]);
     let b = index(list[2]);
     let c = index(list[3]);
     let id = low(list[4]);
-    if kind == 1 {
-        session_edit::set(s, cells, journal, a, b, c, id)
+    Reply::from(if kind == 1 {
+        session_edit::set(session, cells, journal, a, b, c, id)
     } else {
-        session_edit::fill_column(s, cells, journal, a, b, c, id)
-    }
-}
-
-fn many_groups(s: Session, cells: &mut [u16; 8], journal: &mut [u8; JOURNAL]) -> Edited {
-    session_batch::set_blocks(s, cells, journal, &[0; 68])
+        session_edit::fill_column(session, cells, journal, a, b, c, id)
+    })
 }
 
 // Where it is refused the record is all zeros.
-fn reopen(cells: &mut [u16; 8], journal: &[u8; JOURNAL], held: usize) -> Edited {
+fn reopen(
+    session: &mut Session,
+    cells: &mut [u16; 8],
+    journal: &[u8; JOURNAL],
+    held: usize,
+) -> Reply {
     let start = reopen_start(session_reopen::reopen(cells, journal, held));
-    untold(start.session, start.number, start.line)
+    *session = start.session;
+    untold(start.number, start.line)
 }
 
 fn other(
     kind: u32,
-    s: Session,
+    session: &mut Session,
     cells: &mut [u16; 8],
     journal: &mut [u8; JOURNAL],
     a: usize,
-) -> Edited {
-    if kind == 4 {
-        many_groups(s, cells, journal)
-    } else if kind == 5 {
-        session_undo::undo(s, cells, journal)
-    } else if kind == 6 {
-        untold(press_in_turn(s, cells, journal, a), 0, 0)
-    } else {
-        reopen(cells, journal, a)
+) -> Reply {
+    match kind {
+        4 => Reply::from(session_batch::set_blocks(session, cells, journal, &[0; 68])),
+        5 => Reply::from(session_undo::undo(session, cells, journal)),
+        6 => press_in_turn(session, cells, journal, a),
+        _ => reopen(session, cells, journal, a),
     }
 }
 
-// Makes the call that a line says, and hands the record on.
-fn call(
-    rt: &impl Print,
-    kind: u32,
-    s: Session,
-    cells: &mut [u16; 8],
-    journal: &mut [u8; JOURNAL],
-    list: &[u32; 7],
-) -> io::Result<Session> {
-    let e = if kind < 4 {
-        edit(kind, s, cells, journal, list)
-    } else {
-        other(kind, s, cells, journal, index(list[1]))
-    };
-    show(rt, e, cells)
-}
-
+// Makes the call that a line says, and shows what it told.
 fn row(
     rt: &impl Print,
-    s: Session,
+    session: &mut Session,
     cells: &mut [u16; 8],
     journal: &mut [u8; JOURNAL],
     list: &[u32; 7],
-) -> io::Result<Session> {
-    let kind = list[0];
-    if kind == 8 {
-        show_text(rt, journal, index(list[1]))?;
-        return Ok(s);
-    }
-    call(rt, kind, s, cells, journal, list)
-}
-
-// The lines of the input, one after the other.
-fn rows(
-    rt: &impl Print,
-    text: &[u8],
-    first: Session,
-    cells: &mut [u16; 8],
-    journal: &mut [u8; JOURNAL],
 ) -> io::Result<()> {
-    let mut list = [0u32; 7];
-    let mut s = first;
-    let mut at = 0;
-    while at < text.len() {
-        let next = test_vectors::seven(text, at, &mut list);
-        if next <= at {
-            return Ok(());
-        }
-        s = row(rt, s, cells, journal, &list)?;
-        at = next;
+    let kind = list[0];
+    let a = index(list[1]);
+    if kind == 8 {
+        return show_text(rt, journal, a);
     }
-    Ok(())
+    let reply = if kind < 4 {
+        edit(kind, session, cells, journal, list)
+    } else {
+        other(kind, session, cells, journal, a)
+    };
+    show(rt, reply, session, cells)
 }
 
 // An older journal: of its five edits only the second alters a cell. Its last line was cut off.
@@ -216,8 +175,11 @@ fn replay(rt: &impl Print, text: &[u8]) -> io::Result<()> {
     let mut cells = [0u16; 8];
     let mut journal = [0u8; JOURNAL];
     store(&mut journal);
-    let none = reopen(&mut cells, &journal, 0);
-    rows(rt, text, none.session, &mut cells, &mut journal)
+    let mut session = reopen_start(session_reopen::reopen(&mut cells, &journal, 0)).session;
+    each_line(
+        text,
+        |list| row(rt, &mut session, &mut cells, &mut journal, list),
+    )
 }
 
 fn main(rt: HostRuntime) -> io::Result<()> {

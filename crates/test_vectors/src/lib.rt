@@ -5,74 +5,72 @@
 
 ghost use Rattle.std.specs.Prelude.{◌≡◌, ◌≤◌, IfOk, length};
 
-use openmap_io::{Failure, Reading, read_journal};
+use openmap_io::{Failure, read_journal};
+use std::fmt::Display;
 use std::io;
 use std::io::{ErrorKind, Input, Print};
 
-// A number's bits, and where the byte after it stands.
-#[derive(Drop)]
-pub struct Found {
-    pub bits: u32,
-    pub at: usize,
+// The digits at the front of a text as a number's bits, and what stands behind them.
+fn digits(text: &[u8]) -> (u32, &[u8]) {
+    let n = text
+        .iter()
+        .position(|b| !b.is_ascii_digit())
+        .unwrap_or(text.len());
+    let (digits, behind) = text.split_at(n);
+    let bits = digits.iter().fold(0u32, |bits, b| {
+        bits.wrapping_mul(10).wrapping_add(u32::from(*b) & 15)
+    });
+    (bits, behind)
 }
 
-fn wide(byte: u8) -> u32 {
-    byte as u32
-}
-
-// One more digit behind those already read.
-fn join(bits: u32, digit: u8) -> u32 {
-    std::num::wrapping_add_u32(num_core::wrap::wrapping_mul_u32(bits, 10), wide(digit) & 15)
-}
-
-// The digits that stand from a position on.
-fn digits(text: &[u8], from: usize) -> Found {
-    let mut bits: u32 = 0;
-    let mut at = from;
-    while at < text.len() {
-        let b = text[at];
-        if b < 48 {
-            return Found { bits, at };
-        }
-        if b > 57 {
-            return Found { bits, at };
-        }
-        bits = join(bits, b);
-        at += 1;
+// The number at the front of a text, a minus before it or not, and what stands behind it.
+pub fn number(text: &[u8]) -> (u32, &[u8]) {
+    if let [b'-', behind @ ..] = text {
+        let (bits, behind) = digits(behind);
+        (0u32.wrapping_sub(bits), behind)
+    } else {
+        digits(text)
     }
-    Found { bits, at }
 }
 
-// The place after a position, or the position itself where the text ends.
-pub fn past(text: &[u8], at: usize) -> usize {
-    if at < text.len() { at + 1 } else { at }
+// The text behind its first byte, or the empty text where it has none.
+pub fn past(text: &[u8]) -> &[u8] {
+    if let [_, behind @ ..] = text {
+        behind
+    } else {
+        text
+    }
 }
 
-// The number that stands at a position, a minus before it or not.
-pub fn number(text: &[u8], from: usize) -> Found {
-    if from < text.len() {
-        if text[from] == b'-' {
-            let n = digits(text, from + 1);
-            return Found {
-                bits: std::num::wrapping_sub_u32(0, n.bits),
-                at: n.at,
-            };
+// Puts the next seven numbers into a list, and answers the text behind them.
+pub fn seven<'a>(text: &'a [u8], list: &mut [u32; 7]) -> &'a [u8] {
+    let mut rest = text;
+    for place in list.iter_mut() {
+        let (bits, behind) = number(rest);
+        *place = bits;
+        rest = past(behind);
+    }
+    rest
+}
+
+// Hands the seven numbers of each line to a function, until one fails.
+pub fn each_line<F: FnMut(&[u32; 7]) -> io::Result<()>>(
+    text: &[u8],
+    mut answer: F,
+) -> io::Result<()>
+    requires { F.IsAlwaysCallable answer }
+{
+    let mut list = [0u32; 7];
+    let mut rest = text;
+    while !rest.is_empty() {
+        let behind = seven(rest, &mut list);
+        answer(&list)?;
+        if behind.len() >= rest.len() {
+            return Ok(());
         }
+        rest = behind;
     }
-    digits(text, from)
-}
-
-// Puts the next seven numbers into a list, and answers where the one after them begins.
-pub fn seven(text: &[u8], from: usize, list: &mut [u32; 7]) -> usize {
-    let mut at = from;
-    let mut i = 0;
-    while i < 7 {
-        let n = number(text, at);
-        list[i] = n.bits;
-        at = past(text, n.at);
-        i += 1;
-    }
-    at
+    Ok(())
 }
 
 // Room for a text.
@@ -86,11 +84,10 @@ pub fn text_room() -> [u8; 65536]
 pub fn read_text(rt: &impl Input, text: &mut [u8]) -> io::Result<usize>
     ensures { IfOk result (λ n. n ≤ length text.new) }
 {
-    match read_journal(rt, text) {
-        Reading::Whole(n) => Ok(n),
-        Reading::Failed(Failure::Call(error)) => Err(error),
-        Reading::Failed(Failure::Stuck) => Err(io::Error::from(ErrorKind::TimedOut)),
-    }
+    read_journal(rt, text).map_err(|failure| match failure {
+        Failure::Call(error) => error,
+        Failure::Stuck => io::Error::from(ErrorKind::TimedOut),
+    })
 }
 
 // Room for the cells of the largest chunk.
@@ -100,37 +97,22 @@ pub fn room() -> [u16; 262144]
     [0; 262144]
 }
 
-pub fn wide_id(id: u16) -> u32 {
-    id as u32
-}
-
-// One more id behind those of a checksum.
-fn add_id(sum: u32, id: u16) -> u32 {
-    std::num::wrapping_add_u32(num_core::wrap::wrapping_mul_u32(sum, 16777619), wide_id(id))
-}
-
 // Each id is added to 16,777,619 times what came before, modulo 2^32.
 pub fn checksum(cells: &[u16]) -> u32 {
-    let mut sum: u32 = 0;
-    let mut i = 0;
-    while i < cells.len() {
-        sum = add_id(sum, cells[i]);
-        i += 1;
-    }
-    sum
+    cells.iter().fold(0u32, |sum, id| {
+        sum.wrapping_mul(16777619).wrapping_add(u32::from(*id))
+    })
 }
 
 // Writes a blank and a number.
-pub fn show_next(rt: &impl Print, n: u64) -> io::Result<()> {
+pub fn show_next<N: Display + Drop>(rt: &impl Print, n: N) -> io::Result<()> {
     print!(rt; " {n}")
 }
 
-// Writes a blank and a number for each id.
-pub fn show_ids(rt: &impl Print, ids: &[u16]) -> io::Result<()> {
-    let mut i = 0;
-    while i < ids.len() {
-        show_next(rt, wide_id(ids[i]) as u64)?;
-        i += 1;
+// Writes a blank and a number for each place.
+pub fn show_all<N: Display + Drop>(rt: &impl Print, numbers: &[N]) -> io::Result<()> {
+    for n in numbers {
+        print!(rt; " {n}")?;
     }
     Ok(())
 }

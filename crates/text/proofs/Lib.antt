@@ -1,3 +1,3 @@
 pub mod Runs
 pub mod Fields
-pub mod Negative
+pub mod Signs

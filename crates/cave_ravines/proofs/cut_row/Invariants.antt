@@ -1,13 +1,7 @@
 -- `cave_ravines::cut_row` meets its contract. Assumes nothing.
-use mathlib.Core.Path.{◌≡◌}
-use Prim.Native.Nat.{◌-◌, ◌≤◌}
-use lib.ListN.{length}
-use Rattle.noise_tables.specs.Row.{Flags}
+use Rattle.std.proofs.Common.{◌≡◌, ℕ, ◌<◌, false, get_or}
 use Rattle.cave_ravines.specs.Cuts.{cut_at}
 use Rattle.cave_ravines.proofs.cut_row.Given as goal
 
 abbrev pub invariant-loop-i : goal.invariant-loop-i
-invariant-loop-i l = (l.i ≤ l.n) × (length l.cuts ≡ length l.initial.cuts) × Flags l.i (cut_at l.f l.z l.vals) l.cuts
-
-abbrev pub decreases-loop-i : goal.decreases-loop-i
-decreases-loop-i l = l.n - l.i
+invariant-loop-i l = (k : ℕ) → k < l.i → get_or l.cut-items k false ≡ cut_at l.f l.z l.vals k

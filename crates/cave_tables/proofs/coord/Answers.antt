@@ -1,30 +1,42 @@
 -- `cave_tables::coord` meets its contract. Assumes nothing.
-use mathlib.Core.Path.{ap, ◌∙◌}
+use mathlib.Core.Path.{◌≡◌, ap, ◌∙◌}
+use Prim.Native.Nat.{ℕ, ◌≤◌}
+use native.Mathlib.Omega.{arith}
 use lib.IntN.{ℤ, pos, ◌+ℤ◌}
-use lib.Ieee.{binary32, of_int}
+use lib.Signed.{mag}
+use lib.Ieee.{of_bits, neg}
 use mir.Syntax.{w32}
-use borrow.Author.Tests.{lt-ltb, le-ltb}
-use Rattle.basics.specs.Words.{read, back}
-use Rattle.cave_tables.specs.Coords.{x_of, y_of, z_of, cave_coord}
+use Rattle.std.proofs.lemmas.Bool.Decides.{nat_tests}
+use Rattle.num_core.specs.Num.{nearest}
+use Rattle.basics.specs.Words.{again, back}
+use Rattle.column.specs.Floats.{real}
+use Rattle.cave_tables.specs.Coords.{x_of, y_of, z_of, octave_of, cave_coord}
 use Rattle.cave_tables.proofs.coord.Goals as goal
 
-pub returns-then-o-lt-LEVEL : goal.returns-then-o-lt-LEVEL
-unfolding cave_coord
-returns-then-o-lt-LEVEL c =
-    let w =
-    read w32 c.along-wx.type_inv (c.along-wx.ensures ∙ ap (λ (u : ℤ). u +ℤ pos c.args.i) (back c.args.f.ox c.requires.0.x)) in
-    rw (lt-ltb c.args.o 11 c.if-o-lt-LEVEL.true) (c.x_at.ensures ∙ ap (x_of c.args.o) (c.of_i32.ensures ∙ ap (of_int binary32) w))
+-- 32 bits hold where the chunk begins
+place : (o : ℤ) (i : ℕ) → mag o ≤ 1000000 → real (again w32 o +ℤ pos i) ≡ real (o +ℤ pos i)
+place o i h = ap (λ (u : ℤ). real (u +ℤ pos i)) (back o h)
 
-pub returns-then-o-lt-DEPTH : goal.returns-then-o-lt-DEPTH
-unfolding cave_coord
-returns-then-o-lt-DEPTH c =
-    let w =
-    read w32 c.along-wy.type_inv (c.along-wy.ensures ∙ ap (λ (u : ℤ). u +ℤ pos c.args.i) (back c.args.f.oy c.requires.0.y)) in
-    rw (le-ltb c.args.o 11 c.if-o-lt-LEVEL.false, lt-ltb c.args.o 19 c.if-o-lt-DEPTH.true) (c.y_at.ensures ∙ ap (y_of _) (c.of_i32-then-o-lt-DEPTH.ensures ∙ ap (of_int binary32) w))
+pub returns-in-0-to-7 : goal.returns-in-0-to-7
+unfolding cave_coord x_of octave_of nearest of_bits neg
+returns-in-0-to-7 c =
+    let e = c.place_at-x.ensures ∙ place c.args.f.ox c.args.i c.requires.0.x in
+    grind (arith, nat_tests, c.octave_at.ensures, e)
 
-pub returns : goal.returns
-unfolding cave_coord
-returns c =
-    let w =
-    read w32 c.along-wz.type_inv (c.along-wz.ensures ∙ ap (λ (u : ℤ). u +ℤ pos c.args.i) (back c.args.f.oz c.requires.0.z)) in
-    rw (le-ltb c.args.o 11 c.if-o-lt-LEVEL.false, le-ltb c.args.o 19 c.if-o-lt-DEPTH.false) (c.z_at.ensures ∙ ap (z_of _) (c.of_i32-2.ensures ∙ ap (of_int binary32) w))
+pub returns-in-8-to-10 : goal.returns-in-8-to-10
+unfolding cave_coord x_of nearest of_bits neg
+returns-in-8-to-10 c =
+    let e = c.place_at-x-in-8-to-10.ensures ∙ place c.args.f.ox c.args.i c.requires.0.x in
+    grind (arith, nat_tests, c.scaled.ensures, e)
+
+pub returns-in-11-to-18 : goal.returns-in-11-to-18
+unfolding cave_coord y_of octave_of nearest of_bits neg
+returns-in-11-to-18 c =
+    let e = c.place_at-y.ensures ∙ place c.args.f.oy c.args.i c.requires.0.y in
+    grind (arith, nat_tests, c.octave_at-in-11-to-18.ensures, e)
+
+pub returns-in_default : goal.returns-in_default
+unfolding cave_coord z_of octave_of nearest of_bits neg
+returns-in_default c =
+    let e = c.place_at-z.ensures ∙ place c.args.f.oz c.args.i c.requires.0.z in
+    grind (arith, nat_tests, c.octave_at-in_default.ensures, e)

@@ -1,14 +1,9 @@
 -- `chunk_tally::list_ids` meets its contract. The loop's invariant: the ids of the first w windows are written. Assumes nothing.
-use mathlib.Core.Path.{◌≡◌}
-use Prim.Native.Nat.{◌-◌, ◌*◌, ◌≤◌}
-use lib.ListN.{length}
+use Rattle.std.proofs.Common.{◌*◌}
 use Rattle.chunk_tally.specs.Ids.{id_count}
 use Rattle.chunk_tally.specs.Spans.{Wrote, ids_to, counts_to}
 use Rattle.chunk_tally.proofs.list_ids.Given as goal
 
 abbrev pub invariant-loop-w : goal.invariant-loop-w
 invariant-loop-w l =
-    (l.w ≤ 8) × Wrote 0 l.initial.ids l.initial.counts (ids_to (l.w * 8192) (id_count l.cells)) (counts_to (l.w * 8192) (id_count l.cells)) l.ids l.counts l.at × (length l.table ≡ 8192)
-
-abbrev pub decreases-loop-w : goal.decreases-loop-w
-decreases-loop-w l = 8 - l.w
+    Wrote 0 l.initial.ids l.initial.counts (ids_to (l.w * 8192) (id_count l.cells)) (counts_to (l.w * 8192) (id_count l.cells)) l.ids l.counts l.at

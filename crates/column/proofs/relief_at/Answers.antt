@@ -7,4 +7,13 @@ use Rattle.column.proofs.relief_at.Goals as goal
 pub returns : goal.returns
 unfolding relief_of nearest of_bits neg
 returns c =
-    simp (c.offset_fbm-hill_factor.ensures, c.offset_fbm-dune.ensures, c.plateau-plateau.ensures, c.offset_fbm.ensures, c.ridges-ridges.ensures, c.scaled_fbm-micro.ensures, c.scaled_fbm-detail.ensures, c.continent-continent.ensures)
+    simp (
+      c.offset_fbm-hill_factor.ensures,
+      c.offset_fbm-dune.ensures,
+      c.plateau-plateau.ensures,
+      c.offset_fbm.ensures,
+      c.ridges-ridges.ensures,
+      c.scaled_fbm-micro.ensures,
+      c.scaled_fbm-detail.ensures,
+      c.continent-continent.ensures,
+    )

@@ -1,15 +1,11 @@
 -- `column_tops::note_each` meets its contract. Assumes nothing.
-use mathlib.Core.Path.{◌≡◌}
-use mathlib.Core.List.{◌++◌}
-use Prim.Native.Nat.{◌+◌, ◌-◌, ◌*◌, ◌≤◌}
-use lib.ListN.{drop}
+use Rattle.std.proofs.Common.{◌≡◌, ◌*◌, ◌++◌, drop}
 use Rattle.grid.specs.Cube.{tab}
 use Rattle.ground_cell.specs.Base.{column_height, column_biome}
 use Rattle.column_tops.proofs.note_each.Given as goal
 
 abbrev pub invariant-loop-z : goal.invariant-loop-z
-invariant-loop-z l =
-    (l.z ≤ l.o.size) × (l.heights ≡ tab (l.z * l.o.size) (column_height l.w l.o) ++ drop (l.z * l.o.size) l.initial.heights) × (l.biomes ≡ tab (l.z * l.o.size) (column_biome l.w l.o) ++ drop (l.z * l.o.size) l.initial.biomes)
-
-abbrev pub decreases-loop-z : goal.decreases-loop-z
-decreases-loop-z l = l.o.size - l.z
+invariant-loop-z l = record {
+  tall : l.heights ≡ tab (l.z * l.o.size) (column_height l.w l.o) ++ drop (l.z * l.o.size) l.initial.heights;
+  kinds : l.biomes ≡ tab (l.z * l.o.size) (column_biome l.w l.o) ++ drop (l.z * l.o.size) l.initial.biomes;
+}

@@ -1,40 +1,22 @@
-use native.Mathlib.Omega.{arith}
-use Rattle.grid.specs.Grid.{index_lt, cube_most, in_all, out_x, out_y, out_z}
+-- `grid::put` meets its contract: a cell of the chunk has its place in the slice. Assumes nothing.
+use Rattle.std.proofs.Common.{sym, arith}
 use Rattle.grid.specs.Cube.{put_at}
+use Rattle.grid.specs.Grid.{inside_true, index_below}
 use Rattle.grid.proofs.put.Goals as goal
 
-pub returns-then-x-size : goal.returns-then-x-size
+pub cell_index-requires : goal.cell_index-requires
+cell_index-requires c = let h = inside_true _ _ _ _ (sym c.if-is_inside.ensures) in (c.requires.most, h.x_in, h.y_in, h.z_in)
+
+pub offset_bounds-cells-cell_index : goal.offset_bounds-cells-cell_index
+offset_bounds-cells-cell_index c = omega (arith, index_below c.requires (inside_true _ _ _ _ (sym c.if-is_inside.ensures)))
+
+pub bounds-cells-cell_index : goal.bounds-cells-cell_index
+bounds-cells-cell_index c = omega (arith, index_below c.requires (inside_true _ _ _ _ (sym c.if-is_inside.ensures)))
+
+pub returns-then-is_inside : goal.returns-then-is_inside
 unfolding put_at
-returns-then-x-size c = let a = c.args in rw (out_x a.size a.x a.y a.z c.if-x-size.true)
+returns-then-is_inside c = rw (← c.if-is_inside.ensures, c.cell_index.ensures)
 
-pub returns-then-y-size : goal.returns-then-y-size
+pub returns-else-is_inside : goal.returns-else-is_inside
 unfolding put_at
-returns-then-y-size c = let a = c.args in rw (out_y a.size a.x a.y a.z c.if-x-size.false c.if-y-size.true)
-
-pub returns-then-z-size : goal.returns-then-z-size
-unfolding put_at
-returns-then-z-size c =
-    let a = c.args in
-    rw (out_z a.size a.x a.y a.z c.if-x-size.false c.if-y-size.false c.if-z-size.true)
-
-pub offset_bounds-cells-i : goal.offset_bounds-cells-i
-offset_bounds-cells-i c =
-    let a = c.args in
-    let l = index_lt a.size a.x a.y a.z c.if-x-size.false c.if-y-size.false c.if-z-size.false in
-    let e = c.cell_index-i.ensures in
-    let k = cube_most a.size c.requires.most in
-    omega arith
-
-pub bounds-cells-i : goal.bounds-cells-i
-bounds-cells-i c =
-    let a = c.args in
-    let l = index_lt a.size a.x a.y a.z c.if-x-size.false c.if-y-size.false c.if-z-size.false in
-    let e = c.cell_index-i.ensures in
-    let k = c.requires.all in
-    omega arith
-
-pub returns : goal.returns
-unfolding put_at
-returns c =
-    let a = c.args in
-    rw (in_all a.size a.x a.y a.z c.if-x-size.false c.if-y-size.false c.if-z-size.false, c.cell_index-i.ensures)
+returns-else-is_inside c = rw (← c.if-is_inside.ensures)

@@ -1,14 +1,13 @@
--- The numbers are those of the first i cells. Assumes nothing.
-use mathlib.Core.Path.{◌≡◌}
-use Prim.Native.Nat.{◌-◌, ◌≤◌}
-use lib.ListN.{take, drop}
+-- The numbers are those of the pairs so far. Assumes nothing.
+use Rattle.std.proofs.Common.{◌≡◌, ◌≤◌, length, take, drop}
 use Rattle.grid.specs.Count.{non_air_count}
 use Rattle.grid.specs.Differing.{differing}
 use Rattle.grid_slabs.proofs.compare_slab.Given as goal
 
-abbrev pub invariant-loop-i : goal.invariant-loop-i
-invariant-loop-i l =
-    (l.i ≤ l.n) × (l.altered ≤ l.i) × (l.count ≤ l.i) × (l.altered ≡ differing (take l.i l.old) (take l.i (drop l.start l.cells))) × (l.count ≡ non_air_count (take l.i (drop l.start l.cells)))
-
-abbrev pub decreases-loop-i : goal.decreases-loop-i
-decreases-loop-i l = l.n - l.i
+abbrev pub invariant-loop-kept : goal.invariant-loop-kept
+invariant-loop-kept l = record {
+  altered_few : l.altered ≤ length l.yielded;
+  count_few : l.count ≤ length l.yielded;
+  altered : l.altered ≡ differing (take (length l.yielded) l.old) (take (length l.yielded) (drop l.start l.cells));
+  count : l.count ≡ non_air_count (take (length l.yielded) (drop l.start l.cells));
+}

@@ -12,6 +12,6 @@ returns c =
     let a = c.args in
     let size = a.config.chunk_size in
     ap₃ (λ (x y z : ℤ). frame_with x y z size)
-    (read w32 c.origin-ox.type_inv (c.origin-ox.ensures ∙ ap (λ (u : ℤ). u *ℤ pos size) (to_z-of_z w32 a.pos.cx (record { sfits = (let q = c.struct_told-1.given in omega arith) }))))
-    (read w32 c.origin-oy.type_inv (c.origin-oy.ensures ∙ ap (λ (u : ℤ). u *ℤ pos size) (to_z-of_z w32 a.pos.cy (record { sfits = (let q = c.struct_told-2-1.given in omega arith) }))))
-    (read w32 c.origin-oz.type_inv (c.origin-oz.ensures ∙ ap (λ (u : ℤ). u *ℤ pos size) (to_z-of_z w32 a.pos.cz (record { sfits = (let q = c.struct_told-3-1.given in omega arith) }))))
+    (read w32 c.origin-ox.type_inv (c.origin-ox.ensures ∙ ap (λ (u : ℤ). u *ℤ pos size) (to_z-of_z w32 a.pos.cx (record { sfits = omega arith }))))
+    (read w32 c.origin-oy.type_inv (c.origin-oy.ensures ∙ ap (λ (u : ℤ). u *ℤ pos size) (to_z-of_z w32 a.pos.cy (record { sfits = omega arith }))))
+    (read w32 c.origin-oz.type_inv (c.origin-oz.ensures ∙ ap (λ (u : ℤ). u *ℤ pos size) (to_z-of_z w32 a.pos.cz (record { sfits = omega arith }))))

@@ -3,7 +3,7 @@ use mathlib.Core.Path.{sym, ap, ap₂, ◌∙◌}
 use Prim.Native.Nat.{ℕ, ◌+◌}
 use lib.IntN.{ℤ}
 use lib.Ieee.{of_bits}
-use borrow.Author.Tests.{eq-eqb, ne_eqb}
+use borrow.Author.Tests.{eq-eqb}
 use Rattle.num_core.specs.Num.{nearest}
 use Rattle.grid.specs.Cube.{steps}
 use Rattle.basics.specs.Words.{back}
@@ -11,10 +11,6 @@ use Rattle.ground_boulders.specs.Signs.{range_length, sum_natural}
 use Rattle.ground_boulders.specs.Boulders.{pillar_of, boulder_height, boulder_blocks, place_boulder}
 use Rattle.ground_boulders.proofs.boulder_at.Goals.{After-whole-n}
 use Rattle.ground_boulders.proofs.boulder_at.Goals as goal
-
-pub returns-then-b-ne-MOUNTAIN : goal.returns-then-b-ne-MOUNTAIN
-unfolding place_boulder
-returns-then-b-ne-MOUNTAIN c = rw (ne_eqb _ _ c.if-b-ne-MOUNTAIN.true)
 
 pub returns-then-h : goal.returns-then-h
 unfolding place_boulder boulder_blocks pillar_of steps nearest of_bits

@@ -2,11 +2,8 @@
 use mathlib.Core.Path.{ap, ◌∙◌}
 use native.Mathlib.Omega.{arith}
 use Rattle.ground_boulders.specs.Signs.{range_length, whole_part}
-use Rattle.ground_boulders.proofs.Counts.{floor_cast, floor_none, floor_some}
+use Rattle.ground_boulders.proofs.Counts.{floor_none, floor_some}
 use Rattle.ground_boulders.proofs.whole.Goals as goal
-
-pub overflow_cast-result : goal.overflow_cast-result
-overflow_cast-result c = floor_cast c.to_i32-n.result c.to_i32-n.type_inv c.if-n-lt0.false
 
 pub returns-then-n-lt0 : goal.returns-then-n-lt0
 unfolding whole_part

@@ -7,11 +7,6 @@ use Rattle.grid.specs.Grid.{square_most}
 use Rattle.ground_chunk.specs.Laid.{tops_noted}
 use Rattle.ground_chunk.proofs.lay.Goals as goal
 
-pub note_tops-requires : goal.note_tops-requires
-note_tops-requires c =
-    let sq = square_most c.args.o.size c.requires.1.most in
-    (c.requires.0, c.requires.1, omega arith, omega arith, sq, sq)
-
 pub slice_bounds-lay_noted-end-3 : goal.slice_bounds-lay_noted-end-3
 slice_bounds-lay_noted-end-3 c =
     let t = c.note_tops in

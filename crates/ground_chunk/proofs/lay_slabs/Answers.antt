@@ -64,6 +64,7 @@ returns c =
     ∙ rows_same o.size (near_from lo) (near_to o.size hi) (tree_step_in lo hi o sea held) (tree_step_in lo hi o sea (top_of w o)) stones least most
     (λ k d x. tree_steps lo hi o sea held (top_of w o) k d (same k x))
     ∙ ap (over_rows o.size (near_from lo) (near_to o.size hi) (tree_step_in lo hi o sea (top_of w o)))
-    (rows_same o.size lo hi (boulder_step o held) (boulder_step o (top_of w o)) p up in_chunk_lem (λ k d x. boulder_steps o held (top_of w o) k d (same k x))) in
+    (rows_same o.size lo hi (boulder_step o held) (boulder_step o (top_of w o)) p up in_chunk_lem
+    (λ k d x. boulder_steps o held (top_of w o) k d (same k x))) in
     subst (λ (x : List ℕ). Clip o.size lo hi a.cells.now x (ground_in w o)) (sym e)
     (slab_ground lo hi w o tall near up in_chunk_lem a.cells.now p (rows_clip w o lo hi a.cells.now p near based.ensures))

@@ -1,17 +1,8 @@
--- `ground_crown::canopy` meets its contract: behind l layers the cells are those that l steps leave. Assumes nothing.
-use mathlib.Core.Path.{◌≡◌}
-use Prim.Native.Nat.{◌+◌, ◌-◌, ◌≤◌}
-use lib.IntN.{pos}
-use lib.ListN.{length}
+-- Behind l layers the cells are those that l steps leave. Assumes nothing.
+use Rattle.std.proofs.Common.{◌≡◌, pos}
 use Rattle.grid.specs.Cube.{steps}
 use Rattle.ground_crown.specs.Slabs.{canopy_step_in}
 use Rattle.ground_crown.proofs.canopy.Given as goal
 
 abbrev pub invariant-loop-l : goal.invariant-loop-l
-invariant-loop-l l =
-    (l.l ≤ l.n + 1)
-    × (length l.cells ≡ length l.initial.cells)
-    × (l.cells ≡ steps l.l (canopy_step_in l.lo l.hi l.size l.oy l.x l.z l.wx l.wz (pos l.top) l.r l.n) l.initial.cells)
-
-abbrev pub decreases-loop-l : goal.decreases-loop-l
-decreases-loop-l l = l.n + 1 - l.l
+invariant-loop-l l = l.cells ≡ steps l.l (canopy_step_in l.lo l.hi l.size l.oy l.x l.z l.wx l.wz (pos l.top) l.r l.n) l.initial.cells

@@ -1,119 +1,41 @@
-use mathlib.Core.Path.{◌≡◌, refl, ap, ◌∙◌}
-use Prim.Native.Nat.{ℕ, ◌+◌, ◌*◌, ◌/◌, ◌%◌, ◌≤◌, ◌<◌}
-use native.Mathlib.Omega.{arith}
-use native.Mathlib.Nat.{div-le_self, mod-le, mul-le-mul}
-use lib.IntN.{ℤ}
+-- The leaf at i and m is leaf i * w + m. Assumes nothing.
+use Rattle.std.proofs.Common.{◌≡◌, ℕ, ◌+◌, ◌*◌, ◌<◌, List, ℤ, ◌∙◌, arith}
+use Rattle.std.proofs.Math.Arith.{digits_div, digits_mod}
 use mir.Syntax.{w32}
 use mir.ValLaws.{to_z-of_z}
 use Rattle.basics.specs.Paths.{ap₃}
-use Rattle.grid.specs.Cube.{steps}
-use Rattle.grid.specs.Grid.{steps_more, steps_none}
 use Rattle.basics.specs.Words.{again}
+use Rattle.grid.specs.Cube.{steps}
+use Rattle.grid.specs.Grid.{steps_none}
+use Rattle.grid_slabs.specs.Rows.{row_more}
 use Rattle.ground_crown.specs.Slabs.{leaf_step_in, layer_step_in, layer_in}
 use Rattle.ground_crown.proofs.layer.Goals as goal
 
-pub overflow_mul-w : goal.overflow_mul-w
-overflow_mul-w c =
-    let a = c.args in
-    let h4 : a.r ≤ 4 = c.requires.3 in
-    let q : 2 * a.r + 1 ≤ 9 = omega arith in
-    let g : (2 * a.r + 1) * (2 * a.r + 1) ≤ 9 * 9 = mul-le-mul q q in
-    omega arith
-
-pub overflow_add-w : goal.overflow_add-w
-overflow_add-w c =
-    let a = c.args in
-    let h4 : a.r ≤ 4 = c.requires.3 in
-    let q : 2 * a.r + 1 ≤ 9 = omega arith in
-    let g : (2 * a.r + 1) * (2 * a.r + 1) ≤ 9 * 9 = mul-le-mul q q in
-    omega arith
-
-pub overflow_mul-n : goal.overflow_mul-n
-overflow_mul-n c =
-    let a = c.args in
-    let h4 : a.r ≤ 4 = c.requires.3 in
-    let q : 2 * a.r + 1 ≤ 9 = omega arith in
-    let g : (2 * a.r + 1) * (2 * a.r + 1) ≤ 9 * 9 = mul-le-mul q q in
-    omega arith
-
-pub loop-j-init : goal.loop-j-init
-loop-j-init c = (omega arith, refl, steps_none _ _)
-
-pub nonzero_div-j : goal.nonzero_div-j
-nonzero_div-j c = omega arith
-
-pub nonzero_rem-j : goal.nonzero_rem-j
-nonzero_rem-j c = omega arith
-
-pub leaf_in-requires : goal.leaf_in-requires
-leaf_in-requires c =
-    let a = c.args in
-    let lo = c.loop-j in
-    let h4 : a.r ≤ 4 = c.requires.3 in
-    let w = 2 * a.r + 1 in
-    let q : 2 * a.r + 1 ≤ 9 = omega arith in
-    let g : (2 * a.r + 1) * (2 * a.r + 1) ≤ 9 * 9 = mul-le-mul q q in
-    let f = layer_step_in a.lo a.hi a.size a.x a.z (again w32 a.wx) (again w32 a.wz) a.y a.r a.l in
-    let i0 : lo.j ≤ (2 * a.r + 1) * (2 * a.r + 1) = lo.invariant.0 in
-    let lt : lo.j < (2 * a.r + 1) * (2 * a.r + 1) = c.loop-j-test.true in
-    let dv = div-le_self lo.j (2 * a.r + 1) in
-    let md = mod-le lo.j (2 * a.r + 1) in
-    (record { most = c.requires.0.most; all = lo.invariant.1 ∙ c.requires.0.all }, c.requires.1, c.requires.2, h4, c.requires.4, omega arith, omega arith)
-
-pub overflow_add-j : goal.overflow_add-j
-overflow_add-j c =
-    let a = c.args in
-    let lo = c.loop-j in
-    let h4 : a.r ≤ 4 = c.requires.3 in
-    let w = 2 * a.r + 1 in
-    let q : 2 * a.r + 1 ≤ 9 = omega arith in
-    let g : (2 * a.r + 1) * (2 * a.r + 1) ≤ 9 * 9 = mul-le-mul q q in
-    let f = layer_step_in a.lo a.hi a.size a.x a.z (again w32 a.wx) (again w32 a.wz) a.y a.r a.l in
-    let i0 : lo.j ≤ (2 * a.r + 1) * (2 * a.r + 1) = lo.invariant.0 in
-    let lt : lo.j < (2 * a.r + 1) * (2 * a.r + 1) = c.loop-j-test.true in
-    omega arith
-
-pub loop-j-smaller : goal.loop-j-smaller
-loop-j-smaller c =
-    let a = c.args in
-    let lo = c.loop-j in
-    let h4 : a.r ≤ 4 = c.requires.3 in
-    let w = 2 * a.r + 1 in
-    let q : 2 * a.r + 1 ≤ 9 = omega arith in
-    let g : (2 * a.r + 1) * (2 * a.r + 1) ≤ 9 * 9 = mul-le-mul q q in
-    let f = layer_step_in a.lo a.hi a.size a.x a.z (again w32 a.wx) (again w32 a.wz) a.y a.r a.l in
-    let i0 : lo.j ≤ (2 * a.r + 1) * (2 * a.r + 1) = lo.invariant.0 in
-    let lt : lo.j < (2 * a.r + 1) * (2 * a.r + 1) = c.loop-j-test.true in
-    omega arith
-
-pub loop-j-preserved : goal.loop-j-preserved
+step_at : (lo hi size x z : ℕ) (wx wz : ℤ) (y r l i m : ℕ) (d : List ℕ) → m < 2 * r + 1
+    → leaf_step_in lo hi size x z wx wz y r l i m d ≡ layer_step_in lo hi size x z wx wz y r l (i * (2 * r + 1) + m) d
 unfolding layer_step_in
-loop-j-preserved c =
-    let a = c.args in
-    let lo = c.loop-j in
-    let h4 : a.r ≤ 4 = c.requires.3 in
-    let w = 2 * a.r + 1 in
-    let q : 2 * a.r + 1 ≤ 9 = omega arith in
-    let g : (2 * a.r + 1) * (2 * a.r + 1) ≤ 9 * 9 = mul-le-mul q q in
-    let f = layer_step_in a.lo a.hi a.size a.x a.z (again w32 a.wx) (again w32 a.wz) a.y a.r a.l in
-    let i0 : lo.j ≤ (2 * a.r + 1) * (2 * a.r + 1) = lo.invariant.0 in
-    let lt : lo.j < (2 * a.r + 1) * (2 * a.r + 1) = c.loop-j-test.true in
-    (omega arith, c.leaf_in.auto.cells ∙ lo.invariant.1, c.leaf_in.ensures ∙ ap (leaf_step_in a.lo a.hi a.size a.x a.z (again w32 a.wx) (again w32 a.wz) a.y a.r a.l (lo.j / w) (lo.j % w)) lo.invariant.2 ∙ steps_more lo.j f a.cells.now)
+step_at lo hi size x z wx wz y r l i m d h = rw (digits_div i h, digits_mod i h)
 
-pub shape_of-cells : goal.shape_of-cells
-shape_of-cells c = c.loop-j.invariant.1
+pub loop-i-init : goal.loop-i-init
+loop-i-init c = let none : 0 * (2 * c.args.r + 1) ≡ 0 = omega arith in rw none (steps_none _ _)
+
+pub loop-m-preserved : goal.loop-m-preserved
+loop-m-preserved c =
+    let a = c.args in
+    let i = c.loop-i.i in
+    let l = c.loop-m in
+    let f = layer_step_in a.lo a.hi a.size a.x a.z (again w32 a.wx) (again w32 a.wz) a.y a.r a.l in
+    c.leaf_in.ensures
+    ∙ step_at a.lo a.hi a.size a.x a.z (again w32 a.wx) (again w32 a.wz) a.y a.r a.l i l.m l.cells c.loop-m-test.true
+    ∙ row_more (2 * a.r + 1) i f a.cells.now l.cells l.m l.invariant
 
 pub returns : goal.returns
 unfolding layer_in
 returns c =
     let a = c.args in
-    let lo = c.loop-j in
-    let h4 : a.r ≤ 4 = c.requires.3 in
+    let l = c.loop-i in
     let w = 2 * a.r + 1 in
-    let q : 2 * a.r + 1 ≤ 9 = omega arith in
-    let g : (2 * a.r + 1) * (2 * a.r + 1) ≤ 9 * 9 = mul-le-mul q q in
-    let f = layer_step_in a.lo a.hi a.size a.x a.z (again w32 a.wx) (again w32 a.wz) a.y a.r a.l in
-    let i0 : lo.j ≤ (2 * a.r + 1) * (2 * a.r + 1) = lo.invariant.0 in
-    let e : lo.j ≡ (2 * a.r + 1) * (2 * a.r + 1) = (let t = c.loop-j-test.false in omega arith) in
-    lo.invariant.2
-    ∙ ap₃ (λ (k : ℕ) (u v : ℤ). steps k (layer_step_in a.lo a.hi a.size a.x a.z u v a.y a.r a.l) a.cells.now) e (to_z-of_z w32 a.wx c.ranges.wx) (to_z-of_z w32 a.wz c.ranges.wz)
+    let e : l.i ≡ 2 * a.r + 1 = omega arith in
+    l.invariant
+    ∙ ap₃ (λ (k : ℕ) (u v : ℤ). steps (k * w) (layer_step_in a.lo a.hi a.size a.x a.z u v a.y a.r a.l) a.cells.now)
+    e (to_z-of_z w32 a.wx c.ranges.wx) (to_z-of_z w32 a.wz c.ranges.wz)

@@ -1,11 +1,10 @@
 -- `ground_crown::leaf_at` meets its contract. Assumes nothing.
 use mathlib.Core.Path.{◌≡◌, sym, ap, ◌∙◌}
 use Prim.Native.Nat.{ℕ}
-use native.Mathlib.Omega.{arith}
 use lib.ListN.{get_or}
 use borrow.Author.Tests.{eq-eqb, ne_eqb}
 use Rattle.grid.specs.Cube.{cell_index}
-use Rattle.grid.specs.Grid.{cube_most, index_lt, in_all, out_x, out_y, out_z}
+use Rattle.grid.specs.Grid.{in_all, out_x, out_y, out_z}
 use Rattle.ground_crown.specs.Crown.{leaf_at}
 use Rattle.ground_crown.proofs.leaf_at.Goals as goal
 
@@ -22,45 +21,6 @@ unfolding leaf_at
 returns-then-z-size c =
     let a = c.args in
     rw (out_z a.size a.x a.y a.z c.if-x-size.false c.if-y-size.false c.if-z-size.true)
-
-pub offset_bounds-cells-i : goal.offset_bounds-cells-i
-offset_bounds-cells-i c =
-    let a = c.args in
-    let l = index_lt a.size a.x a.y a.z c.if-x-size.false c.if-y-size.false c.if-z-size.false in
-    let e = c.cell_index-i.ensures in
-    let km = cube_most a.size c.requires.most in
-    let ka = c.requires.all in
-    omega arith
-
-pub bounds-cells-i : goal.bounds-cells-i
-bounds-cells-i c =
-    let a = c.args in
-    let l =
-    index_lt a.size a.x a.y a.z c.if-x-size.false c.if-y-size.false c.if-z-size.false in
-    let e = c.cell_index-i.ensures in
-    let km = cube_most a.size c.requires.most in
-    let ka = c.requires.all in
-    omega arith
-
-pub offset_bounds-cells-i-then-cells-i-eq-AIR : goal.offset_bounds-cells-i-then-cells-i-eq-AIR
-offset_bounds-cells-i-then-cells-i-eq-AIR c =
-    let a = c.args in
-    let l =
-    index_lt a.size a.x a.y a.z c.if-x-size.false c.if-y-size.false c.if-z-size.false in
-    let e = c.cell_index-i.ensures in
-    let km = cube_most a.size c.requires.most in
-    let ka = c.requires.all in
-    omega arith
-
-pub bounds-cells-i-then-cells-i-eq-AIR : goal.bounds-cells-i-then-cells-i-eq-AIR
-bounds-cells-i-then-cells-i-eq-AIR c =
-    let a = c.args in
-    let l =
-    index_lt a.size a.x a.y a.z c.if-x-size.false c.if-y-size.false c.if-z-size.false in
-    let e = c.cell_index-i.ensures in
-    let km = cube_most a.size c.requires.most in
-    let ka = c.requires.all in
-    omega arith
 
 pub returns-then-cells-i-eq-AIR : goal.returns-then-cells-i-eq-AIR
 unfolding leaf_at

@@ -2,7 +2,6 @@
 use mathlib.Core.Path.{◌≡◌, sym, ap, ap₂, ◌∙◌}
 use Prim.Native.Nat.{◌+◌, ◌*◌, ◌≤◌, ◌<◌}
 use native.Mathlib.Omega.{arith}
-use native.Mathlib.Nat.{mul-le-mul}
 use mathlib.Core.Bool.{true, false}
 use lib.IntN.{ℤ}
 use lib.Ieee.{of_bits, lt}
@@ -12,12 +11,6 @@ use borrow.Author.Tests.{lt-ltb, le-ltb, eq-eqb, ne_eqb}
 use Rattle.num_core.specs.Num.{nearest}
 use Rattle.ground_crown.specs.Crown.{square_gap, leaf_hash, has_leaf}
 use Rattle.ground_crown.proofs.leafy.Goals as goal
-
-pub overflow_mul-e : goal.overflow_mul-e
-overflow_mul-e c = let a = c.args in let h4 : a.r ≤ 4 = c.requires.0 in let g : a.r * a.r ≤ 4 * 4 = mul-le-mul h4 h4 in omega arith
-
-pub overflow_add-e : goal.overflow_add-e
-overflow_add-e c = let a = c.args in let h4 : a.r ≤ 4 = c.requires.0 in let g : a.r * a.r ≤ 4 * 4 = mul-le-mul h4 h4 in omega arith
 
 pub returns-then-d-e : goal.returns-then-d-e
 unfolding has_leaf nearest of_bits
@@ -38,7 +31,9 @@ returns-then-leaf_hash c =
     let n1 : a.r * a.r + 1 ≤ square_gap a.i a.r + square_gap a.m a.r = (let t = c.if-d-e.false in omega arith) in
     let n2 : square_gap a.i a.r + square_gap a.m a.r ≡ a.r * a.r + 1 = (let t = c.if-d-e-2.true in omega arith) in
     let hh : lt (nearest 6 10) (leaf_hash a.wx a.wz a.r a.l a.i a.m) ≡ true =
-    sym (ap (lt (nearest 6 10)) (c.leaf_hash.ensures ∙ ap₂ (λ (u v : ℤ). leaf_hash u v a.r a.l a.i a.m) (to_z-of_z w32 a.wx c.ranges.wx) (to_z-of_z w32 a.wz c.ranges.wz)))
+    sym (ap (lt (nearest 6 10))
+    (c.leaf_hash.ensures
+    ∙ ap₂ (λ (u v : ℤ). leaf_hash u v a.r a.l a.i a.m) (to_z-of_z w32 a.wx c.ranges.wx) (to_z-of_z w32 a.wz c.ranges.wz)))
     ∙ c.if-leaf_hash.true in
     rw (le-ltb _ _ n1, eq-eqb _ _ n2, hh)
 
@@ -52,7 +47,9 @@ returns-then-d-e-2 c =
     let n1 : a.r * a.r + 1 ≤ square_gap a.i a.r + square_gap a.m a.r = (let t = c.if-d-e.false in omega arith) in
     let n2 : square_gap a.i a.r + square_gap a.m a.r ≡ a.r * a.r + 1 = (let t = c.if-d-e-2.true in omega arith) in
     let hh : lt (nearest 6 10) (leaf_hash a.wx a.wz a.r a.l a.i a.m) ≡ false =
-    sym (ap (lt (nearest 6 10)) (c.leaf_hash.ensures ∙ ap₂ (λ (u v : ℤ). leaf_hash u v a.r a.l a.i a.m) (to_z-of_z w32 a.wx c.ranges.wx) (to_z-of_z w32 a.wz c.ranges.wz)))
+    sym (ap (lt (nearest 6 10))
+    (c.leaf_hash.ensures
+    ∙ ap₂ (λ (u v : ℤ). leaf_hash u v a.r a.l a.i a.m) (to_z-of_z w32 a.wx c.ranges.wx) (to_z-of_z w32 a.wz c.ranges.wz)))
     ∙ c.if-leaf_hash.false in
     rw (le-ltb _ _ n1, eq-eqb _ _ n2, hh)
 

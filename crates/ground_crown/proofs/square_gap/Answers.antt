@@ -6,15 +6,6 @@ use native.Mathlib.Nat.{mul-le-mul}
 use Rattle.ground_crown.specs.Crown.{square_gap}
 use Rattle.ground_crown.proofs.square_gap.Goals as goal
 
-pub overflow_mul-result : goal.overflow_mul-result
-overflow_mul-result c =
-    let a = c.args in
-    let h0 : a.i < 65536 = c.requires.0 in
-    let h1 : a.r < 65536 = c.requires.1 in
-    let p : a.r - a.i ≤ 65535 = omega arith in
-    let g : (a.r - a.i) * (a.r - a.i) ≤ 65535 * 65535 = mul-le-mul p p in
-    omega arith
-
 pub returns-then-i-r : goal.returns-then-i-r
 unfolding square_gap
 returns-then-i-r c =
@@ -25,15 +16,6 @@ returns-then-i-r c =
     let g : (a.r - a.i) * (a.r - a.i) ≤ 65535 * 65535 = mul-le-mul p p in
     let e : a.r - a.i ≡ a.i - a.r + (a.r - a.i) = (let t = c.if-i-r.true in omega arith) in
     (ap (λ (k : ℕ). k * k) e, omega arith)
-
-pub overflow_mul-result-2 : goal.overflow_mul-result-2
-overflow_mul-result-2 c =
-    let a = c.args in
-    let h0 : a.i < 65536 = c.requires.0 in
-    let h1 : a.r < 65536 = c.requires.1 in
-    let p : a.i - a.r ≤ 65535 = omega arith in
-    let g : (a.i - a.r) * (a.i - a.r) ≤ 65535 * 65535 = mul-le-mul p p in
-    omega arith
 
 pub returns : goal.returns
 unfolding square_gap

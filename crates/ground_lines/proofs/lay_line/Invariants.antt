@@ -1,10 +1,7 @@
--- `ground_lines::lay_line` meets its contract. Assumes nothing.
-use Prim.Native.Nat.{◌+◌, ◌-◌, ◌*◌, ◌≤◌}
+-- Of the line's cells x are laid. Assumes nothing.
+use Rattle.std.proofs.Common.{◌+◌, ◌*◌}
 use Rattle.ground_lines.specs.Laws.{Laying}
 use Rattle.ground_lines.proofs.lay_line.Given as goal
 
 abbrev pub invariant-loop-x : goal.invariant-loop-x
-invariant-loop-x l = (l.x ≤ l.o.size) × Laying l.w l.o (l.z * l.o.size + l.y) l.x l.initial.cells l.cells
-
-abbrev pub decreases-loop-x : goal.decreases-loop-x
-decreases-loop-x l = l.o.size - l.x
+invariant-loop-x l = Laying l.w l.fn.o (l.z * l.size + l.y) l.x l.initial.cells l.cells

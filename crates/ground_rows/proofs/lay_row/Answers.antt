@@ -3,16 +3,10 @@ use mathlib.Core.Path.{◌≡◌, sym, ap, ◌∙◌, subst}
 use Prim.Native.Nat.{ℕ, ◌-◌, ◌≤◌}
 use native.Mathlib.Omega.{arith}
 use lib.IntN.{ℤ}
-use lib.Signed.{mag}
 use Rattle.ground_lines.specs.Lines.{below_level}
 use Rattle.ground_lines.specs.Laws.{below_most, height_range}
 use Rattle.basics.specs.Words.{back}
 use Rattle.ground_rows.proofs.lay_row.Goals as goal
-
-pub below_level-hi-requires : goal.below_level-hi-requires
-below_level-hi-requires c =
-    let m = c.row_top-top.ensures.most in
-    (subst (λ (u : ℤ). mag u ≤ 1000000) (sym (back c.args.o.oy c.requires.1.y)) c.requires.1.y, omega arith)
 
 pub begin_row-requires : goal.begin_row-requires
 begin_row-requires c =

@@ -1,21 +1,17 @@
 -- `layer3` meets its contract. Assumes nothing.
-use mathlib.Core.Path.{refl, ap, ◌∙◌}
-use mir.Syntax.{w32}
+use Rattle.std.proofs.Common.{◌≡◌, ℤ, refl, ◌∙◌, w32, rules}
 use mir.ValLaws.{to_z-of_z}
 use Rattle.noise_hash.specs.Hash.{hash3₃₂}
-use Rattle.noise_lattice.specs.Noise.{lerp₃₂, layer₃₂, next}
-use Rattle.basics.specs.Words.{read}
-use Rattle.basics.specs.Paths.{ap₃}
+use Rattle.noise_lattice.specs.Noise.{layer₃₂}
+use Rattle.basics.specs.Words.{again}
+use Rattle.basics.specs.Paths.{ap₃, ap₅}
 use Rattle.noise_lattice.proofs.layer3.Goals as goal
 
 pub returns : goal.returns
 unfolding layer₃₂
 returns c =
-    let ix = to_z-of_z w32 c.args.ix c.ranges.ix in
-    let iy = to_z-of_z w32 c.args.iy c.ranges.iy in
-    let iz = to_z-of_z w32 c.args.iz c.ranges.iz in
-    let jx = read w32 c.wrapping_add-jx.type_inv (c.wrapping_add-jx.ensures ∙ ap next ix) in
-    let jy = read w32 c.wrapping_add-jy.type_inv (c.wrapping_add-jy.ensures ∙ ap next iy) in
-    let a = c.lerp.ensures ∙ ap₃ lerp₃₂ (c.hash3.ensures ∙ ap₃ hash3₃₂ ix iy iz) (c.hash3-2.ensures ∙ ap₃ hash3₃₂ jx iy iz) refl in
-    let b = c.lerp-2.ensures ∙ ap₃ lerp₃₂ (c.hash3-3.ensures ∙ ap₃ hash3₃₂ ix jy iz) (c.hash3-4.ensures ∙ ap₃ hash3₃₂ jx jy iz) refl in
-    c.lerp-3.ensures ∙ ap₃ lerp₃₂ a b refl
+    let k = again w32 c.args.iz in
+    let layer = c.square.ensures (λ (x y : ℤ). hash3₃₂ x y k)
+    (λ x y v f e p. let r : v ≡ hash3₃₂ (again w32 x) (again w32 y) k = search rules in r ∙ ap₃ hash3₃₂ (to_z-of_z w32 x f) (to_z-of_z w32 y e) refl) in
+    layer
+    ∙ ap₅ layer₃₂ (to_z-of_z w32 c.args.ix c.ranges.ix) (to_z-of_z w32 c.args.iy c.ranges.iy) (to_z-of_z w32 c.args.iz c.ranges.iz) refl refl

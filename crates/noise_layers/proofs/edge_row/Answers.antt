@@ -1,7 +1,7 @@
 use mathlib.Core.Path.{◌≡◌, sym, ap, ap₂, ◌∙◌, subst}
-use Prim.Native.Nat.{ℕ, ◌+◌, ◌≤◌, ◌<◌}
+use Prim.Native.Nat.{ℕ, ◌+◌}
 use native.Mathlib.Omega.{arith}
-use lib.ListN.{length, get_or}
+use lib.ListN.{get_or}
 use lib.IntN.{ℤ}
 use lib.Ieee.{Float}
 use mir.Syntax.{w32}
@@ -16,30 +16,6 @@ use Rattle.noise_layers.proofs.Rows.{laid_same}
 use Rattle.noise_layers.proofs.edge_row.Goals.{then-next-at, else-next-at}
 use Rattle.noise_layers.proofs.edge_row.Goals as goal
 
-pub offset_bounds-floors-base : goal.offset_bounds-floors-base
-offset_bounds-floors-base c =
-    let p = c.requires in
-    let z = p.0 in
-    let n = p.1 in
-    let b = p.2 in
-    let t = p.3 in
-    let f = p.4 in
-    let g = p.5 in
-    let e = p.6 in
-    omega arith
-
-pub bounds-floors-base : goal.bounds-floors-base
-bounds-floors-base c =
-    let p = c.requires in
-    let z = p.0 in
-    let n = p.1 in
-    let b = p.2 in
-    let t = p.3 in
-    let f = p.4 in
-    let g = p.5 in
-    let e = p.6 in
-    omega arith
-
 pub loop-i-init : goal.loop-i-init
 loop-i-init c =
     let iy = to_z w32 (of_z w32 c.args.iy) in
@@ -47,181 +23,12 @@ loop-i-init c =
     let ix = read w32 c.of_bits.type_inv c.of_bits.ensures in
     let ix2 = read w32 c.of_bits-2.type_inv c.of_bits-2.ensures in
     let jx = read w32 c.wrapping_add.type_inv (c.wrapping_add.ensures ∙ ap next ix2) in
-    (omega arith, (c.hash3-a.ensures ∙ ap (λ (u : ℤ). hash3₃₂ u iy iz) ix, c.hash3-b.ensures ∙ ap (λ (u : ℤ). hash3₃₂ u iy iz) jx), laid_none c.args.to _ c.args.edges.now)
-
-pub overflow_add-next : goal.overflow_add-next
-overflow_add-next c =
-    let l = c.loop-i in
-    let p = c.requires in
-    let z = p.0 in
-    let n = p.1 in
-    let b = p.2 in
-    let t = p.3 in
-    let f = p.4 in
-    let g = p.5 in
-    let e = p.6 in
-    let q : l.i < c.args.n = c.loop-i-test.true in
-    let k : length l.edges ≡ length c.args.edges.now = l.invariant.2.long in
-    omega arith
-
-pub offset_bounds-floors-base-in-loop-i : goal.offset_bounds-floors-base-in-loop-i
-offset_bounds-floors-base-in-loop-i c =
-    let l = c.loop-i in
-    let p = c.requires in
-    let z = p.0 in
-    let n = p.1 in
-    let b = p.2 in
-    let t = p.3 in
-    let f = p.4 in
-    let g = p.5 in
-    let e = p.6 in
-    let q : l.i < c.args.n = c.loop-i-test.true in
-    let k : length l.edges ≡ length c.args.edges.now = l.invariant.2.long in
-    omega arith
-
-pub bounds-floors-base-in-loop-i : goal.bounds-floors-base-in-loop-i
-bounds-floors-base-in-loop-i c =
-    let l = c.loop-i in
-    let p = c.requires in
-    let z = p.0 in
-    let n = p.1 in
-    let b = p.2 in
-    let t = p.3 in
-    let f = p.4 in
-    let g = p.5 in
-    let e = p.6 in
-    let q : l.i < c.args.n = c.loop-i-test.true in
-    let k : length l.edges ≡ length c.args.edges.now = l.invariant.2.long in
-    omega arith
-
-pub overflow_add-base : goal.overflow_add-base
-overflow_add-base c =
-    let l = c.loop-i in
-    let p = c.requires in
-    let z = p.0 in
-    let n = p.1 in
-    let b = p.2 in
-    let t = p.3 in
-    let f = p.4 in
-    let g = p.5 in
-    let e = p.6 in
-    let q : l.i < c.args.n = c.loop-i-test.true in
-    let k : length l.edges ≡ length c.args.edges.now = l.invariant.2.long in
-    omega arith
-
-pub offset_bounds-eases-base : goal.offset_bounds-eases-base
-offset_bounds-eases-base c =
-    let l = c.loop-i in
-    let p = c.requires in
-    let z = p.0 in
-    let n = p.1 in
-    let b = p.2 in
-    let t = p.3 in
-    let f = p.4 in
-    let g = p.5 in
-    let e = p.6 in
-    let q : l.i < c.args.n = c.loop-i-test.true in
-    let k : length l.edges ≡ length c.args.edges.now = l.invariant.2.long in
-    omega arith
-
-pub bounds-eases-base : goal.bounds-eases-base
-bounds-eases-base c =
-    let l = c.loop-i in
-    let p = c.requires in
-    let z = p.0 in
-    let n = p.1 in
-    let b = p.2 in
-    let t = p.3 in
-    let f = p.4 in
-    let g = p.5 in
-    let e = p.6 in
-    let q : l.i < c.args.n = c.loop-i-test.true in
-    let k : length l.edges ≡ length c.args.edges.now = l.invariant.2.long in
-    omega arith
-
-pub overflow_add-edges : goal.overflow_add-edges
-overflow_add-edges c =
-    let l = c.loop-i in
-    let p = c.requires in
-    let z = p.0 in
-    let n = p.1 in
-    let b = p.2 in
-    let t = p.3 in
-    let f = p.4 in
-    let g = p.5 in
-    let e = p.6 in
-    let q : l.i < c.args.n = c.loop-i-test.true in
-    let k : length l.edges ≡ length c.args.edges.now = l.invariant.2.long in
-    omega arith
-
-pub offset_bounds-edges-to : goal.offset_bounds-edges-to
-offset_bounds-edges-to c =
-    let l = c.loop-i in
-    let p = c.requires in
-    let z = p.0 in
-    let n = p.1 in
-    let b = p.2 in
-    let t = p.3 in
-    let f = p.4 in
-    let g = p.5 in
-    let e = p.6 in
-    let q : l.i < c.args.n = c.loop-i-test.true in
-    let k : length l.edges ≡ length c.args.edges.now = l.invariant.2.long in
-    omega arith
-
-pub bounds-edges-to : goal.bounds-edges-to
-bounds-edges-to c =
-    let l = c.loop-i in
-    let p = c.requires in
-    let z = p.0 in
-    let n = p.1 in
-    let b = p.2 in
-    let t = p.3 in
-    let f = p.4 in
-    let g = p.5 in
-    let e = p.6 in
-    let q : l.i < c.args.n = c.loop-i-test.true in
-    let k : length l.edges ≡ length c.args.edges.now = l.invariant.2.long in
-    omega arith
-
-pub overflow_add-i : goal.overflow_add-i
-overflow_add-i c =
-    let l = c.loop-i in
-    let p = c.requires in
-    let z = p.0 in
-    let n = p.1 in
-    let b = p.2 in
-    let t = p.3 in
-    let f = p.4 in
-    let g = p.5 in
-    let e = p.6 in
-    let q : l.i < c.args.n = c.loop-i-test.true in
-    let k : length l.edges ≡ length c.args.edges.now = l.invariant.2.long in
-    omega arith
-
-pub loop-i-smaller : goal.loop-i-smaller
-loop-i-smaller c =
-    let l = c.loop-i in
-    let p = c.requires in
-    let z = p.0 in
-    let n = p.1 in
-    let b = p.2 in
-    let t = p.3 in
-    let f = p.4 in
-    let g = p.5 in
-    let e = p.6 in
-    let q : l.i < c.args.n = c.loop-i-test.true in
-    let k : length l.edges ≡ length c.args.edges.now = l.invariant.2.long in
-    omega arith
+    ((c.hash3-a.ensures ∙ ap (λ (u : ℤ). hash3₃₂ u iy iz) ix, c.hash3-b.ensures ∙ ap (λ (u : ℤ). hash3₃₂ u iy iz) jx), laid_none c.args.to _ c.args.edges.now)
 
 pub loop-i-preserved : goal.loop-i-preserved
 unfolding edge_at edge₃₂
 loop-i-preserved c =
     let l = c.loop-i in
-    let t : l.i < c.args.n = c.loop-i-test.true in
-    let g : length l.edges ≡ length c.args.edges.now = l.invariant.2.long in
-    let p = c.requires in
-    let m = p.6 in
     let iy = to_z w32 (of_z w32 c.args.iy) in
     let iz = to_z w32 (of_z w32 c.args.iz) in
     let x = get_or c.args.floors.now (c.args.base + l.i) 0 in
@@ -233,27 +40,29 @@ loop-i-preserved c =
           let ix2 = read w32 w.of_bits-then-next-at-2.type_inv w.of_bits-then-next-at-2.ensures in
           let jx = read w32 w.wrapping_add-then-next-at.type_inv (w.wrapping_add-then-next-at.ensures ∙ ap next ix2) in (
             w.at-is,
-            (w.a-is ∙ w.hash3-a-then-next-at.ensures ∙ ap (λ (u : ℤ). hash3₃₂ u iy iz) ix, w.b-is ∙ w.hash3-b-then-next-at.ensures ∙ ap (λ (u : ℤ). hash3₃₂ u iy iz) jx),
+            (
+              w.a-is ∙ w.hash3-a-then-next-at.ensures ∙ ap (λ (u : ℤ). hash3₃₂ u iy iz) ix,
+              w.b-is ∙ w.hash3-b-then-next-at.ensures ∙ ap (λ (u : ℤ). hash3₃₂ u iy iz) jx,
+            ),
           )
       | else-next-at w ↦
           let e = sym w.if-next-at.false in (
             w.at-is ∙ e,
-            (w.a-is ∙ l.invariant.1.0 ∙ ap (λ (u : ℕ). hash3₃₂ (to_z w32 u) iy iz) e, w.b-is ∙ l.invariant.1.1 ∙ ap (λ (u : ℕ). hash3₃₂ (next (to_z w32 u)) iy iz) e),
+            (
+              w.a-is ∙ l.invariant.0.0 ∙ ap (λ (u : ℕ). hash3₃₂ (to_z w32 u) iy iz) e,
+              w.b-is ∙ l.invariant.0.1 ∙ ap (λ (u : ℕ). hash3₃₂ (next (to_z w32 u)) iy iz) e,
+            ),
           )
     ] in (
-      omega arith,
       subst (λ (u : ℕ). Hashes iy iz u j.a j.b) (sym k.0) k.1,
       laid_more c.args.to (edge_at iy iz c.args.base c.args.floors.now c.args.eases.now) c.args.edges.now l.i l.edges _ (omega arith)
           (c.lerp.ensures ∙ ap₂ (λ (u v : Float). lerp₃₂ u v (at c.args.eases.now (c.args.base + l.i))) k.1.0 k.1.1)
-          l.invariant.2,
+          l.invariant.1,
     )
-
-pub shape_of-edges : goal.shape_of-edges
-shape_of-edges c = c.loop-i.invariant.2.long
 
 pub returns : goal.returns
 returns c =
     let l = c.loop-i in
-    let h : l.i ≤ c.args.n = l.invariant.0 in
-    let e : l.i ≡ c.args.n = (let t = c.loop-i-test.false in omega arith) in
-    laid_same c.args.to c.args.base c.args.floors.now c.args.eases.now c.args.edges.now l.edges e (to_z-of_z w32 c.args.iy c.ranges.iy) (to_z-of_z w32 c.args.iz c.ranges.iz) l.invariant.2
+    let e : l.i ≡ c.args.n = omega arith in
+    laid_same c.args.to c.args.base c.args.floors.now c.args.eases.now c.args.edges.now l.edges e
+    (to_z-of_z w32 c.args.iy c.ranges.iy) (to_z-of_z w32 c.args.iz c.ranges.iz) l.invariant.1

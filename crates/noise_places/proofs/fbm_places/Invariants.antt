@@ -1,14 +1,7 @@
 -- `fbm_places` meets its contract: the loop has passed `counter` octaves. Assumes nothing.
-use mathlib.Core.Path.{◌≡◌}
-use Prim.Native.Nat.{◌-◌, ◌≤◌}
-use lib.ListN.{length}
 use Rattle.noise_places.specs.Places.{along_places}
 use Rattle.noise_rows.proofs.Octaves.{Passed}
 use Rattle.noise_places.proofs.fbm_places.Given as goal
 
 abbrev pub invariant-loop : goal.invariant-loop
-invariant-loop l =
-    (l.counter ≤ l.octaves) × (length l.vals ≡ length l.initial.vals) × Passed l.n (along_places l.xs l.ys) l.counter l.vals l.amp l.freq l.max
-
-abbrev pub decreases-loop : goal.decreases-loop
-decreases-loop l = l.octaves - l.counter
+invariant-loop l = Passed l.n (along_places l.xs l.ys) l.counter l.vals l.amp l.freq l.max

@@ -15,50 +15,6 @@ pub loop-i-init : goal.loop-i-init
 loop-i-init c =
     (omega arith, added_none (noise_at c.args.base c.args.floors.now c.args.eases.now (mul binary32 c.args.y c.args.freq)) c.args.amp 0 c.args.vals.now)
 
-pub run_end-end-requires : goal.run_end-end-requires
-run_end-end-requires c = let p = c.requires in (c.loop-i-test.true, p.0, p.1, p.2)
-
-pub overflow_add-base : goal.overflow_add-base
-overflow_add-base c =
-    let p = c.requires in
-    let b = p.0 in
-    let d = p.1 in
-    let t = c.loop-i-test.true in
-    omega arith
-
-pub offset_bounds-floors-base : goal.offset_bounds-floors-base
-offset_bounds-floors-base c =
-    let p = c.requires in
-    let b = p.0 in
-    let d = p.1 in
-    let t = c.loop-i-test.true in
-    omega arith
-
-pub bounds-floors-base : goal.bounds-floors-base
-bounds-floors-base c =
-    let p = c.requires in
-    let b = p.2 in
-    let t = c.loop-i-test.true in
-    omega arith
-
-pub add_run-requires : goal.add_run-requires
-add_run-requires c =
-    let p = c.requires in
-    let b = p.0 in
-    let d = p.3 in
-    let f = p.4 in
-    let g = c.loop-i.invariant.1.long in
-    let a = c.run_end-end.ensures.above in
-    let m = c.run_end-end.ensures.most in
-    (omega arith, omega arith, p.1, omega arith, omega arith)
-
-pub loop-i-smaller : goal.loop-i-smaller
-loop-i-smaller c =
-    let a = c.run_end-end.ensures.above in
-    let m = c.run_end-end.ensures.most in
-    let t = c.loop-i-test.true in
-    omega arith
-
 pub loop-i-preserved : goal.loop-i-preserved
 unfolding ease₃₂
 loop-i-preserved c =
@@ -73,12 +29,10 @@ loop-i-preserved c =
     c.square_at-k.ensures
     ∙ ap₂ square_of (read w32 c.of_bits.type_inv c.of_bits.ensures) (floor_again v py.0) in (
       r.most,
-      added_run (in_square _ _ c.args.base c.args.eases.now) (noise_at c.args.base c.args.floors.now c.args.eases.now v) c.args.amp 0 l.i c.run_end-end.result c.args.vals.now l.vals _ (omega arith) (let a = r.above in omega arith)
+      added_run (in_square _ _ c.args.base c.args.eases.now) (noise_at c.args.base c.args.floors.now c.args.eases.now v) c.args.amp 0
+          l.i c.run_end-end.result c.args.vals.now l.vals _ (omega arith) (let a = r.above in omega arith)
           (in_run _ _ v c.args.base l.i c.args.n c.run_end-end.result c.args.floors.now c.args.eases.now k fy r) l.invariant.1 c.add_run.ensures,
     )
-
-pub shape_of-vals : goal.shape_of-vals
-shape_of-vals c = c.loop-i.invariant.1.long
 
 pub returns : goal.returns
 returns c =

@@ -1,34 +1,24 @@
-use mathlib.Core.Path.{refl}
-use native.Mathlib.Omega.{arith}
-use lib.Ieee.{of_bits}
+-- `clear` meets its contract: what `fill` leaves is the value again and again. Assumes nothing.
+use Rattle.std.proofs.Common.{◌≡◌, ℕ, ◌++◌, List, length, replicate, ap, ◌∙◌, arith, rules}
+use Rattle.std.proofs.lemmas.List.{get_or-replicate, get_or_append_left, length-replicate, length-append, length-take}
+use lib.Ieee.{Float, nan, of_bits}
 use Rattle.num_core.specs.Num.{nearest}
+use Rattle.noise.specs.Noise.{num}
+use Rattle.noise_tables.specs.Row.{at, Row}
 use Rattle.noise_rows.specs.Sums.{zero_at}
-use Rattle.noise_tables.proofs.Fill.{start, step, end}
 use Rattle.noise_rows.proofs.clear.Goals as goal
 
-pub loop-i-init : goal.loop-i-init
-loop-i-init c = (omega arith, start zero_at _)
-
-pub offset_bounds-vals-i : goal.offset_bounds-vals-i
-offset_bounds-vals-i c = omega arith
-
-pub bounds-vals-i : goal.bounds-vals-i
-bounds-vals-i c = let e = c.loop-i.invariant.1.same in omega arith
-
-pub overflow_add-i : goal.overflow_add-i
-overflow_add-i c = omega arith
-
-pub loop-i-smaller : goal.loop-i-smaller
-loop-i-smaller c = omega arith
-
-pub loop-i-preserved : goal.loop-i-preserved
-unfolding zero_at nearest of_bits
-loop-i-preserved c = let l = c.loop-i in (omega arith, step zero_at c.args.vals.now l.vals l.i _ l.invariant.1 (omega arith) refl)
-
-pub shape_of-vals : goal.shape_of-vals
-shape_of-vals c = c.loop-i.invariant.1.same
+filled : (n k : ℕ) (v : Float) (xs ys : List Float) → xs ≡ replicate k v → k ≡ n → Row n (λ (i : ℕ). v) (xs ++ ys)
+filled n k v xs ys e f =
+    let l : length xs ≡ n = ap length e ∙ length-replicate k v ∙ f in
+    record {
+      long = omega (arith, length-append xs ys);
+      holds = λ i h.
+          get_or_append_left xs ys nan i (omega arith) ∙ ap (λ (u : List Float). at u i) e ∙ get_or-replicate k i v nan (omega arith);
+    }
 
 pub returns : goal.returns
+unfolding zero_at nearest of_bits
 returns c =
-    let l = c.loop-i in
-    end zero_at c.args.vals.now l.vals l.i c.args.n l.invariant.1 c.loop-i-test.false c.requires.1
+    let n = c.args.n in
+    filled n _ (num 0) c.fill.new.self _ (c.fill.ensures.after (λ y h. search rules)) (omega (arith, length-take n c.args.vals.now))

@@ -1,17 +1,15 @@
--- `num_float::abs` meets its contract. Assumes nothing.
-use lib.Ieee.{of_bits}
-use Rattle.num_float.proofs.Floats.{abs_below, abs_zero, abs_above}
-use Rattle.basics.specs.Bools.{is_T}
+-- `num_float::abs` meets its contract: std's absolute value is the definition's. Assumes nothing.
+use Rattle.std.proofs.Common.{◌≡◌, false, refl, ◌∙◌}
+use lib.Ieee.{Float, nan, inf, fin}
+use Rattle.std.specs.Float.{float_with_sign}
+use Rattle.num_float.specs.Num.{abs₃₂}
 use Rattle.num_float.proofs.abs.Goals as goal
 
-pub returns-then-x : goal.returns-then-x
-unfolding of_bits
-returns-then-x c = abs_below c.args.x c.if-x.true
+same : (x : Float) → float_with_sign false x ≡ abs₃₂ x
+unfolding float_with_sign abs₃₂
+same nan = refl
+same (inf s) = refl
+same (fin s m e) = refl
 
-pub returns-then-x-2 : goal.returns-then-x-2
-unfolding of_bits
-returns-then-x-2 c = abs_zero c.args.x (is_T c.well_formed.0.1) c.if-x-2.true
-
-pub returns-else-x-2 : goal.returns-else-x-2
-unfolding of_bits
-returns-else-x-2 c = abs_above c.args.x c.if-x.false c.if-x-2.false
+pub returns : goal.returns
+returns c = c.abs.ensures.value ∙ same c.args.x

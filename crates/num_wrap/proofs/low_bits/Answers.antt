@@ -8,5 +8,5 @@ use Rattle.num_wrap.proofs.low_bits.Goals as goal
 pub returns : goal.returns
 unfolding low31
 returns c =
-    and_mask c.bits_of.result 31
-    ∙ ap (λ (x : ℕ). x % 2 ^ 31) (c.bits_of.ensures ∙ ap (of_z w32) (to_z-of_z w32 c.args.h c.ranges.h))
+    and_mask c.cast_unsigned.result 31
+    ∙ ap (λ (x : ℕ). x % 2 ^ 31) (c.cast_unsigned.ensures ∙ ap (of_z w32) (to_z-of_z w32 c.args.h c.ranges.h))

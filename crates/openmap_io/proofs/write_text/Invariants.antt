@@ -1,9 +1,6 @@
--- The measure of `openmap_io::write_text` is the turns that are left.
+-- `openmap_io::write_text`: what was written lies within the text.
 use Rattle.std.proofs.Common.{length, ◌≤◌}
 use Rattle.openmap_io.proofs.write_text.Given as goal
 
-abbrev pub invariant-loop-at : goal.invariant-loop-at
-invariant-loop-at g l = l.at ≤ length l.text
-
-abbrev pub decreases-loop-at : goal.decreases-loop-at
-decreases-loop-at g l = l.turns
+abbrev pub invariant-loop : goal.invariant-loop
+invariant-loop g l = l.at ≤ length l.text

@@ -2,21 +2,20 @@
 use Rattle.openmap_report.proofs.Told.{lent_most}
 use Rattle.openmap_report.specs.Report.{lent_by, lent_cells}
 use Rattle.journal_open.proofs.Accepts.{opening_facts}
-use mathlib.Core.Path.{◌≡◌, sym, ◌∙◌, ap}
+use mathlib.Core.Path.{sym, ◌∙◌, ap}
 use native.Mathlib.Omega.{arith}
 use Rattle.openmap_report.proofs.lent_cells.Goals as goal
 
 pub lent_for-requires : goal.lent_for-requires
-lent_for-requires c =
-    (opening_facts c.args.journal.now c.args.held _ _ _ (sym c.open_journal-opening.ensures ∙ c.in-Opens.is)).limits
+lent_for-requires c = (opening_facts c.args.journal.now c.args.held _ _ _ (sym c.in-Ok.ensures)).limits
 
-pub returns-in-Refused : goal.returns-in-Refused
+pub returns-in-Err : goal.returns-in-Err
 unfolding lent_cells
-returns-in-Refused c = (sym (ap lent_by (sym c.open_journal-opening.ensures ∙ c.in-Refused.is)), omega arith)
+returns-in-Err c = (ap lent_by c.in-Err.ensures, omega arith)
 
-pub returns-in-Opens : goal.returns-in-Opens
+pub returns-in-Ok : goal.returns-in-Ok
 unfolding lent_cells
-returns-in-Opens c =
-    let e : lent_cells c.args.journal.now c.args.held ≡ c.lent_for.result =
-    ap lent_by (sym c.open_journal-opening.ensures ∙ c.in-Opens.is) ∙ sym c.lent_for.ensures in
-    (sym e, lent_most c.in-Opens.header c.lent_for.result c.lent_for.ensures)
+returns-in-Ok c = (
+  c.lent_for.ensures ∙ ap lent_by c.in-Ok.ensures,
+  lent_most c.in-Ok.opening.header c.lent_for.result c.lent_for.ensures,
+)

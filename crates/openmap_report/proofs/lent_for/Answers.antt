@@ -10,7 +10,7 @@ use mir.Syntax.{w64}
 use lib.Signed.{non_neg}
 use lib.IntN.{ℤ, nat_abs}
 use lib.Dec.{T}
-use Prim.Native.Nat.{◌*◌, ◌≤◌, ◌<◌}
+use Prim.Native.Nat.{ℕ, ◌*◌, ◌≤◌, ◌<◌}
 use mathlib.Core.Path.{◌≡◌, sym, ap, subst}
 use native.Mathlib.Omega.{arith}
 use Rattle.openmap_report.proofs.lent_for.Goals.{After-struct_told-1}
@@ -43,7 +43,8 @@ overflow_mul-result c =
 pub overflow_mul-result-then-size-le-PRINTED_MOST : goal.overflow_mul-result-then-size-le-PRINTED_MOST
 overflow_mul-result-then-size-le-PRINTED_MOST c =
     let k = most (goal.at.overflow_mul-result-then-size-le-PRINTED_MOST c).After-struct_told-1 in
-    let m : nat_abs (to_z w64 (of_z w64 c.args.header.chunk_size)) * nat_abs (to_z w64 (of_z w64 c.args.header.chunk_size)) * nat_abs (to_z w64 (of_z w64 c.args.header.chunk_size)) ≤ 64 * 64 * 64 =
+    let n : ℕ = nat_abs (to_z w64 (of_z w64 c.args.header.chunk_size)) in
+    let m : n * n * n ≤ 64 * 64 * 64 =
     mul-le-mul (mul-le-mul k k) k in
     record { fits = omega arith }
 

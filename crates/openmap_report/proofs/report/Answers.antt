@@ -1,5 +1,6 @@
 -- `openmap_report::report` meets its contract. Too few cells or bytes, or what reopening leaves, as text. Assumes nothing.
 use Rattle.openmap_lines.specs.Appended.{as_text}
+use Rattle.session_calls.specs.Answers.{says_reopened}
 use Rattle.openmap_report.specs.Text.{answer_text}
 use mathlib.Core.List.{◌++◌}
 use Rattle.openmap_report.proofs.Told.{few_cells, few_bytes, all_told, sized}
@@ -33,7 +34,9 @@ module _ (c : After-reopen-answer) where
   back = take_at c.reopen-answer.new.cells (drop c.lent_cells-n.result c.args.cells.now) c.lent_cells-n.result many
 
 pub slice_bounds-put_answer-end-2 : goal.slice_bounds-put_answer-end-2
-slice_bounds-put_answer-end-2 c = sym (ap length (back (goal.at.slice_bounds-put_answer-end-2 c).After-reopen-answer) ∙ many (goal.at.slice_bounds-put_answer-end-2 c).After-reopen-answer)
+slice_bounds-put_answer-end-2 c =
+    let w = (goal.at.slice_bounds-put_answer-end-2 c).After-reopen-answer in
+    sym (ap length (back w) ∙ many w)
 
 pub put_answer-requires : goal.put_answer-requires
 put_answer-requires c =
@@ -44,7 +47,11 @@ put_answer-requires c =
     let k = c.lent_cells-n.ensures.1 in
     let o = c.if-out-lt-TEXT_BYTES.false in
     rw (back (goal.at.put_answer-requires c).After-reopen-answer)
-    (record { sized = sized (take n a.cells.now) a.journal.now a.held r.result r.new.cells r.ensures r.auto.cells; few = omega arith; space = omega arith })
+    (record {
+      sized = sized (take n a.cells.now) a.journal.now a.held (says_reopened r.result) r.new.cells r.ensures r.auto.cells;
+      few = omega arith;
+      space = omega arith;
+    })
 
 pub returns : goal.returns
 returns c =
@@ -52,6 +59,6 @@ returns c =
     let a = c7.args in
     let r = c7.reopen-answer in
     let l = c7.lent_cells-n in
-    all_told a.journal.now a.held a.cells.now a.out.now l.result r.result r.new.cells c.put_answer.new.out c.put_answer.result
+    all_told a.journal.now a.held a.cells.now a.out.now l.result (says_reopened r.result) r.new.cells c.put_answer.new.out c.put_answer.result
     c7.if-cells-lt-CELLS.false c7.if-out-lt-TEXT_BYTES.false l.ensures.0 r.ensures
-    (as_text (ap (answer_text r.result) (back (c7))) c.put_answer.ensures)
+    (as_text (ap (answer_text (says_reopened r.result)) (back (c7))) c.put_answer.ensures)

@@ -18,33 +18,24 @@ module _ (s : Start) where
 pub loop-y-init : goal.loop-y-init
 loop-y-init c =
     let s = (goal.at.loop-y-init c).Start in
-    (omega arith, loops.begins s.args.out.now s.args.at s.args.size (row_text s.args.size s.args.cells.now s.args.z) (space s))
+    loops.begins s.args.out.now s.args.at s.args.size (row_text s.args.size s.args.cells.now s.args.z) (space s)
 
 pub put_row-p-requires : goal.put_row-p-requires
 put_row-p-requires c =
     let s = (goal.at.put_row-p-requires c).Start in
     let l = c.loop-y in
-    record { cube = s.requires.cube; space = loops.fits_next s.args.out.now s.args.at s.args.size (row_text s.args.size s.args.cells.now s.args.z) (space s) l.y l.p l.out (omega arith) l.invariant.1 }
-
-pub overflow_add-y : goal.overflow_add-y
-overflow_add-y c = omega arith
-
-pub loop-y-smaller : goal.loop-y-smaller
-loop-y-smaller c = omega arith
+    record { cube = s.requires.cube; space = loops.fits_next s.args.out.now s.args.at s.args.size (row_text s.args.size s.args.cells.now s.args.z) (space s) l.y l.p l.out (omega arith) l.invariant }
 
 pub loop-y-preserved : goal.loop-y-preserved
 loop-y-preserved c =
     let s = (goal.at.loop-y-preserved c).Start in
     let l = c.loop-y in
     let r = c.put_row-p in
-    (omega arith, loops.goes_on s.args.out.now s.args.at s.args.size (row_text s.args.size s.args.cells.now s.args.z) (space s) l.y l.p r.result l.out r.new.out (omega arith) l.invariant.1 r.ensures)
+    loops.goes_on s.args.out.now s.args.at s.args.size (row_text s.args.size s.args.cells.now s.args.z) (space s) l.y l.p r.result l.out r.new.out (omega arith) l.invariant r.ensures
 
 pub returns : goal.returns
 unfolding layer_text
 returns c =
     let l = c.loop-y in
     let e : l.y ≡ c.args.size = omega arith in
-    as_text (ap (λ (n : ℕ). each n (row_text c.args.size c.args.cells.now c.args.z)) e) l.invariant.1
-
-pub shape_of-out : goal.shape_of-out
-shape_of-out c = kept c.requires.space (returns c)
+    as_text (ap (λ (n : ℕ). each n (row_text c.args.size c.args.cells.now c.args.z)) e) l.invariant

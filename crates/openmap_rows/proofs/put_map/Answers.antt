@@ -18,33 +18,24 @@ module _ (s : Start) where
 pub loop-z-init : goal.loop-z-init
 loop-z-init c =
     let s = (goal.at.loop-z-init c).Start in
-    (omega arith, loops.begins s.args.out.now s.args.at s.args.size (layer_text s.args.size s.args.cells.now) (space s))
+    loops.begins s.args.out.now s.args.at s.args.size (layer_text s.args.size s.args.cells.now) (space s)
 
 pub put_layer-p-requires : goal.put_layer-p-requires
 put_layer-p-requires c =
     let s = (goal.at.put_layer-p-requires c).Start in
     let l = c.loop-z in
-    record { cube = s.requires.cube; space = loops.fits_next s.args.out.now s.args.at s.args.size (layer_text s.args.size s.args.cells.now) (space s) l.z l.p l.out (omega arith) l.invariant.1 }
-
-pub overflow_add-z : goal.overflow_add-z
-overflow_add-z c = omega arith
-
-pub loop-z-smaller : goal.loop-z-smaller
-loop-z-smaller c = omega arith
+    record { cube = s.requires.cube; space = loops.fits_next s.args.out.now s.args.at s.args.size (layer_text s.args.size s.args.cells.now) (space s) l.z l.p l.out (omega arith) l.invariant }
 
 pub loop-z-preserved : goal.loop-z-preserved
 loop-z-preserved c =
     let s = (goal.at.loop-z-preserved c).Start in
     let l = c.loop-z in
     let r = c.put_layer-p in
-    (omega arith, loops.goes_on s.args.out.now s.args.at s.args.size (layer_text s.args.size s.args.cells.now) (space s) l.z l.p r.result l.out r.new.out (omega arith) l.invariant.1 r.ensures)
+    loops.goes_on s.args.out.now s.args.at s.args.size (layer_text s.args.size s.args.cells.now) (space s) l.z l.p r.result l.out r.new.out (omega arith) l.invariant r.ensures
 
 pub returns : goal.returns
 unfolding map_text
 returns c =
     let l = c.loop-z in
     let e : l.z ≡ c.args.size = omega arith in
-    as_text (ap (λ (n : ℕ). each n (layer_text c.args.size c.args.cells.now)) e) l.invariant.1
-
-pub shape_of-out : goal.shape_of-out
-shape_of-out c = kept c.requires.space (returns c)
+    as_text (ap (λ (n : ℕ). each n (layer_text c.args.size c.args.cells.now)) e) l.invariant

@@ -23,13 +23,7 @@ module _ (s : Start) where
 pub loop-x-init : goal.loop-x-init
 loop-x-init c =
     let s = (goal.at.loop-x-init c).Start in
-    (omega arith, loops.begins s.args.out.now s.args.at s.args.size (id_text s.args.size s.args.cells.now s.args.z s.args.y) (space s))
-
-pub see-requires : goal.see-requires
-see-requires c = c.requires.cube
-
-pub overflow_cast-see : goal.overflow_cast-see
-overflow_cast-see c = omega arith
+    loops.begins s.args.out.now s.args.at s.args.size (id_text s.args.size s.args.cells.now s.args.z s.args.y) (space s)
 
 pub put_separated-p-requires : goal.put_separated-p-requires
 put_separated-p-requires c =
@@ -38,24 +32,16 @@ put_separated-p-requires c =
     let e : length (separated l.x (decimal c.see.result)) ≡ length (id_text s.args.size s.args.cells.now s.args.z s.args.y l.x) =
     ap length (id_is s.args.size s.args.cells.now s.args.z s.args.y l.x c.see.result c.see.ensures) in
     let h =
-    loops.fits_next s.args.out.now s.args.at s.args.size (id_text s.args.size s.args.cells.now s.args.z s.args.y) (space s) l.x l.p l.out (omega arith) l.invariant.1 in
+    loops.fits_next s.args.out.now s.args.at s.args.size (id_text s.args.size s.args.cells.now s.args.z s.args.y) (space s) l.x l.p l.out (omega arith) l.invariant in
     omega arith
-
-pub overflow_add-x : goal.overflow_add-x
-overflow_add-x c = omega arith
-
-pub loop-x-smaller : goal.loop-x-smaller
-loop-x-smaller c = omega arith
 
 pub loop-x-preserved : goal.loop-x-preserved
 loop-x-preserved c =
     let s = (goal.at.loop-x-preserved c).Start in
     let l = c.loop-x in
-    let r = c.see in (
-      omega arith,
-      loops.goes_on s.args.out.now s.args.at s.args.size (id_text s.args.size s.args.cells.now s.args.z s.args.y) (space s) l.x l.p c.put_separated-p.result l.out c.put_separated-p.new.out (omega arith) l.invariant.1
-          (as_text (id_is s.args.size s.args.cells.now s.args.z s.args.y l.x r.result r.ensures) c.put_separated-p.ensures),
-    )
+    let r = c.see in
+    loops.goes_on s.args.out.now s.args.at s.args.size (id_text s.args.size s.args.cells.now s.args.z s.args.y) (space s) l.x l.p c.put_separated-p.result l.out c.put_separated-p.new.out (omega arith) l.invariant
+    (as_text (id_is s.args.size s.args.cells.now s.args.z s.args.y l.x r.result r.ensures) c.put_separated-p.ensures)
 
 pub put_byte-requires : goal.put_byte-requires
 put_byte-requires c =
@@ -63,10 +49,10 @@ put_byte-requires c =
     let l = c.loop-x in
     let e : l.x ≡ s.args.size = omega arith in
     let k = ap (λ (n : ℕ). length (each n (id_text s.args.size s.args.cells.now s.args.z s.args.y))) e in
-    let b = l.invariant.1.behind in
+    let b = l.invariant.behind in
     let a = all s in
     let g =
-    loops.keeps s.args.out.now s.args.at s.args.size (id_text s.args.size s.args.cells.now s.args.z s.args.y) (space s) l.x l.p l.out (omega arith) l.invariant.1 in
+    loops.keeps s.args.out.now s.args.at s.args.size (id_text s.args.size s.args.cells.now s.args.z s.args.y) (space s) l.x l.p l.out (omega arith) l.invariant in
     omega arith
 
 pub returns : goal.returns
@@ -75,7 +61,4 @@ returns c =
     let l = c.loop-x in
     let e : l.x ≡ s.args.size = omega arith in
     as_text (row_is s.args.size s.args.cells.now s.args.z s.args.y)
-    (then (space s) (as_text (ap (λ (n : ℕ). each n (id_text s.args.size s.args.cells.now s.args.z s.args.y)) e) l.invariant.1) c.put_byte.ensures)
-
-pub shape_of-out : goal.shape_of-out
-shape_of-out c = kept c.requires.space (returns c)
+    (then (space s) (as_text (ap (λ (n : ℕ). each n (id_text s.args.size s.args.cells.now s.args.z s.args.y)) e) l.invariant) c.put_byte.ensures)

@@ -2,11 +2,7 @@
 use Rattle.openmap_rows.specs.Rows.{id_text}
 use Rattle.openmap_lines.specs.Text.{each}
 use Rattle.openmap_lines.specs.Appended.{Appended}
-use Prim.Native.Nat.{◌-◌, ◌≤◌}
 use Rattle.openmap_rows.proofs.put_row.Given as goal
 
 abbrev pub invariant-loop-x : goal.invariant-loop-x
-invariant-loop-x l = (l.x ≤ l.size) × Appended l.initial.out l.at (each l.x (id_text l.size l.cells l.z l.y)) l.out l.p
-
-abbrev pub decreases-loop-x : goal.decreases-loop-x
-decreases-loop-x l = l.size - l.x
+invariant-loop-x l = Appended l.initial.out l.at (each l.x (id_text l.size l.cells l.z l.y)) l.out l.p

@@ -1,151 +1,45 @@
-use mathlib.Core.Path.{◌≡◌, refl, ap, ap₂, ◌∙◌}
-use Prim.Native.Nat.{ℕ, ◌+◌, ◌-◌, ◌*◌, ◌/◌, ◌%◌, ◌≤◌, ◌<◌}
-use native.Mathlib.Omega.{arith}
-use native.Mathlib.Nat.{mod-lt}
-use mathlib.Core.List.{List}
-use lib.IntN.{ℤ}
+-- The column at x and z is column z * size + x. Assumes nothing.
+use Rattle.std.proofs.Common.{◌≡◌, ℕ, ◌+◌, ◌*◌, ◌<◌, List, ℤ, ap, ◌∙◌, arith}
+use Rattle.std.proofs.Math.Arith.{digits_div, digits_mod}
 use mir.Syntax.{w32}
 use mir.ValLaws.{to_z-of_z}
-use Rattle.grid.specs.Cube.{steps}
-use Rattle.grid.specs.Grid.{below_2, square_most, steps_more, steps_none}
-use Rattle.ground_cell.specs.World.{Near}
 use Rattle.basics.specs.Words.{again}
+use Rattle.grid_slabs.specs.Rows.{over_rows, columns_none, columns_more, columns_next, columns_all}
+use Rattle.ground_cell.specs.declared.world.Frame.{Frame}
+use Rattle.ground_cell.specs.declared.world.Top.{Top}
 use Rattle.ground_trees.specs.Features.{top_in}
-use Rattle.grid_slabs.specs.Rows.{rows_fit, over_rows}
 use Rattle.ground_trees.specs.Slabs.{tree_column_in, tree_step_in}
 use Rattle.ground_trees.proofs.tree.place_trees.Goals as goal
 
-pub overflow_mul-from : goal.overflow_mul-from
-overflow_mul-from c =
-    let a = c.args in
-    let sq = square_most a.o.size c.requires.0.most in
-    let fit = rows_fit a.o.size a.first a.last c.requires.5 c.requires.6 in
-    omega arith
-
-pub overflow_sub-n : goal.overflow_sub-n
-overflow_sub-n c = c.requires.5
-
-pub overflow_mul-n : goal.overflow_mul-n
-overflow_mul-n c =
-    let a = c.args in
-    let sq = square_most a.o.size c.requires.0.most in
-    let fit = rows_fit a.o.size a.first a.last c.requires.5 c.requires.6 in
-    omega arith
-
-pub loop-j-init : goal.loop-j-init
-loop-j-init c = (omega arith, refl, steps_none _ _)
-
-pub overflow_add-k : goal.overflow_add-k
-overflow_add-k c =
-    let l = c.loop-j in
-    let a = c.args in
-    let o = a.o in
-    let p : Near o = c.requires.0 in
-    let sq = square_most o.size p.most in
-    let fit = rows_fit o.size a.first a.last c.requires.5 c.requires.6 in
-    let lt : l.j < (a.last - a.first) * o.size = c.loop-j-test.true in
-    omega arith
-
-pub offset_bounds-heights-k : goal.offset_bounds-heights-k
-offset_bounds-heights-k c =
-    let l = c.loop-j in
-    let a = c.args in
-    let o = a.o in
-    let p : Near o = c.requires.0 in
-    let sq = square_most o.size p.most in
-    let fit = rows_fit o.size a.first a.last c.requires.5 c.requires.6 in
-    let lt : l.j < (a.last - a.first) * o.size = c.loop-j-test.true in
-    omega arith
-
-pub bounds-heights-k : goal.bounds-heights-k
-bounds-heights-k c =
-    let l = c.loop-j in
-    let a = c.args in
-    let o = a.o in
-    let p : Near o = c.requires.0 in
-    let sq = square_most o.size p.most in
-    let fit = rows_fit o.size a.first a.last c.requires.5 c.requires.6 in
-    let lt : l.j < (a.last - a.first) * o.size = c.loop-j-test.true in
-    let g = c.requires.1 in
-    omega arith
-
-pub bounds-biomes-k : goal.bounds-biomes-k
-bounds-biomes-k c =
-    let l = c.loop-j in
-    let a = c.args in
-    let o = a.o in
-    let p : Near o = c.requires.0 in
-    let sq = square_most o.size p.most in
-    let fit = rows_fit o.size a.first a.last c.requires.5 c.requires.6 in
-    let lt : l.j < (a.last - a.first) * o.size = c.loop-j-test.true in
-    let g = c.requires.2 in
-    omega arith
-
-pub nonzero_rem-k : goal.nonzero_rem-k
-nonzero_rem-k c = c.requires.0.some
-
-pub nonzero_div-k : goal.nonzero_div-k
-nonzero_div-k c = c.requires.0.some
-
-pub tree_column-requires : goal.tree_column-requires
-tree_column-requires c =
-    let l = c.loop-j in
-    let a = c.args in
-    let o = a.o in
-    let p : Near o = c.requires.0 in
-    let sq = square_most o.size p.most in
-    let fit = rows_fit o.size a.first a.last c.requires.5 c.requires.6 in
-    let lt : l.j < (a.last - a.first) * o.size = c.loop-j-test.true in
-    let k = a.first * o.size + l.j in
-    let h : a.first * o.size + l.j < o.size * o.size = omega arith in
-    (record { most = p.most; all = l.invariant.1 ∙ c.requires.3.all }, p, c.requires.4 (a.first * o.size + l.j) h, (c.type_inv.heights (a.first * o.size + l.j)).fits, mod-lt (a.first * o.size + l.j) p.some, below_2 o.size (a.first * o.size + l.j) h)
-
-pub overflow_add-j : goal.overflow_add-j
-overflow_add-j c =
-    let l = c.loop-j in
-    let a = c.args in
-    let o = a.o in
-    let p : Near o = c.requires.0 in
-    let sq = square_most o.size p.most in
-    let fit = rows_fit o.size a.first a.last c.requires.5 c.requires.6 in
-    let lt : l.j < (a.last - a.first) * o.size = c.loop-j-test.true in
-    omega arith
-
-pub loop-j-smaller : goal.loop-j-smaller
-loop-j-smaller c =
-    let l = c.loop-j in
-    let a = c.args in
-    let o = a.o in
-    let p : Near o = c.requires.0 in
-    let sq = square_most o.size p.most in
-    let fit = rows_fit o.size a.first a.last c.requires.5 c.requires.6 in
-    let lt : l.j < (a.last - a.first) * o.size = c.loop-j-test.true in
-    omega arith
-
-pub loop-j-preserved : goal.loop-j-preserved
+step_at : (lo hi : ℕ) (o : Frame) (sea : ℤ) (t : ℕ → Top) (z x : ℕ) (d : List ℕ) → x < o.size
+    → tree_column_in lo hi o sea (t (z * o.size + x)) x z d ≡ tree_step_in lo hi o sea t (z * o.size + x) d
 unfolding tree_step_in
-loop-j-preserved c =
-    let l = c.loop-j in
-    let a = c.args in
-    let o = a.o in
-    let p : Near o = c.requires.0 in
-    let sq = square_most o.size p.most in
-    let fit = rows_fit o.size a.first a.last c.requires.5 c.requires.6 in
-    let lt : l.j < (a.last - a.first) * o.size = c.loop-j-test.true in
-    let k = a.first * o.size + l.j in
-    let f : ℕ → List ℕ → List ℕ = λ (i : ℕ). tree_step_in a.lo a.hi o (again w32 a.sea) (top_in a.heights.now a.biomes.now) (a.first * o.size + i) in
-    (omega arith, c.tree_column.auto.cells ∙ l.invariant.1, c.tree_column.ensures ∙ ap (tree_column_in a.lo a.hi o (again w32 a.sea) (top_in a.heights.now a.biomes.now k) (k % o.size) (k / o.size)) l.invariant.2 ∙ steps_more l.j f a.cells.now)
+step_at lo hi o sea t z x d h = rw (digits_mod z h, digits_div z h)
 
-pub shape_of-cells : goal.shape_of-cells
-shape_of-cells c = c.loop-j.invariant.1
+pub loop-z-init : goal.loop-z-init
+loop-z-init c = columns_none _ _ _ _
+
+pub loop-x-preserved : goal.loop-x-preserved
+loop-x-preserved c =
+    let a = c.args in
+    let z = c.loop-z.z in
+    let l = c.loop-x in
+    c.tree_column.ensures
+    ∙ step_at a.lo a.hi a.o (again w32 a.sea) (top_in a.heights.now a.biomes.now) z l.x l.cells c.loop-x-test.true
+    ∙ columns_more a.o.size a.first _ a.cells.now z l.x l.cells (omega arith) l.invariant
+
+pub loop-z-preserved : goal.loop-z-preserved
+loop-z-preserved c =
+    let a = c.args in
+    let l = c.loop-x in
+    let e : l.x ≡ a.o.size = omega arith in
+    columns_next a.o.size a.first _ a.cells.now c.loop-z.z l.cells (omega arith) (rw e at l.invariant)
 
 pub returns : goal.returns
-unfolding over_rows
 returns c =
-    let l = c.loop-j in
     let a = c.args in
-    let o = a.o in
-    let i0 : l.j ≤ (a.last - a.first) * o.size = l.invariant.0 in
-    let e : l.j ≡ (a.last - a.first) * o.size = (let t = c.loop-j-test.false in omega arith) in
-    l.invariant.2
-    ∙ ap₂ (λ (k : ℕ) (u : ℤ). steps k (λ (i : ℕ). tree_step_in a.lo a.hi o u (top_in a.heights.now a.biomes.now) (a.first * o.size + i)) a.cells.now) e (to_z-of_z w32 a.sea c.ranges.sea)
+    let l = c.loop-z in
+    let e : l.z ≡ a.last = omega arith in
+    rw e at (columns_all a.o.size a.first _ a.cells.now l.z l.cells l.invariant)
+    ∙ ap (λ (u : ℤ). over_rows a.o.size a.first a.last (tree_step_in a.lo a.hi a.o u (top_in a.heights.now a.biomes.now)) a.cells.now)
+    (to_z-of_z w32 a.sea c.ranges.sea)

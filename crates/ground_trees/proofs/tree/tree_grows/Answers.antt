@@ -1,26 +1,18 @@
--- `ground_trees::tree::tree_grows` meets its contract. Assumes nothing.
+-- The arms are the definition's cases. Assumes nothing.
+use Rattle.std.proofs.Common.{rules, tests}
 use lib.Ieee.{of_bits}
-use borrow.Author.Tests.{eq-eqb, ne_eqb}
 use Rattle.num_core.specs.Num.{nearest}
 use Rattle.ground_trees.specs.Features.{tree_grows}
 use Rattle.ground_trees.proofs.tree.tree_grows.Goals as goal
 
-pub returns-then-h : goal.returns-then-h
+pub returns-in-2 : goal.returns-in-2
 unfolding tree_grows nearest of_bits
-returns-then-h c = rw (eq-eqb _ _ c.if-b-eq-FOREST.true, c.if-h.true)
+returns-in-2 c = search rules
 
-pub returns-then-b-eq-FOREST : goal.returns-then-b-eq-FOREST
+pub returns-in-3 : goal.returns-in-3
 unfolding tree_grows nearest of_bits
-returns-then-b-eq-FOREST c = rw (eq-eqb _ _ c.if-b-eq-FOREST.true, c.if-h.false)
+returns-in-3 c = search rules
 
-pub returns-then-h-2 : goal.returns-then-h-2
+pub returns-in_default : goal.returns-in_default
 unfolding tree_grows nearest of_bits
-returns-then-h-2 c = rw (ne_eqb _ _ c.if-b-eq-FOREST.false, eq-eqb _ _ c.if-b-eq-PLAINS.true, c.if-h-2.true)
-
-pub returns-then-b-eq-PLAINS : goal.returns-then-b-eq-PLAINS
-unfolding tree_grows nearest of_bits
-returns-then-b-eq-PLAINS c = rw (ne_eqb _ _ c.if-b-eq-FOREST.false, eq-eqb _ _ c.if-b-eq-PLAINS.true, c.if-h-2.false)
-
-pub returns : goal.returns
-unfolding tree_grows nearest of_bits
-returns c = rw (ne_eqb _ _ c.if-b-eq-FOREST.false, ne_eqb _ _ c.if-b-eq-PLAINS.false)
+returns-in_default c = search (tests, rules)
