@@ -1,1 +1,2 @@
 mod Forms
+pub mod Asks
