@@ -1,6 +1,6 @@
-// The six calls of a session over a record lent by reference (SCOPE 7.7), for a host that keeps one: each answers in numbers what the library's
-// call answers. Exported to C as they are; include/perillahinge.h says what each is for. One equation for the record, the reply, the cells and
-// the journal.
+// The six calls of a session over a record lent by reference (SCOPE 7.7), for a host that keeps one: each hands the record to the call by
+// value and stores what comes back. Exported to C as they are; include/perillahinge.h says what each is for. One equation for the record, the
+// reply, the cells and the journal.
 ghost use Rattle.std.specs.Prelude.{◌≡◌};
 ghost use Rattle.session_calls.specs.Calls.{outcome, recorded, session_set_does, session_column_does, session_batch_does, session_undo_does};
 ghost use Rattle.session_calls.specs.Checkpoints.{session_checkpoint_does, session_restore_does};
@@ -20,7 +20,9 @@ pub extern "C" fn pl_session_set(
     ensures { outcome session.new result cells.new journal.new
         ≡ session_set_does session.old cells.old journal.old x y z id }
 {
-    Reply::from(session_edit::set(session, cells, journal, x, y, z, id))
+    let b = session_by_value::set(*session, cells, journal, x, y, z, id);
+    *session = b.session;
+    b.reply
 }
 
 #[unsafe(no_mangle)]
@@ -36,7 +38,9 @@ pub extern "C" fn pl_session_fill_column(
     ensures { outcome session.new result cells.new journal.new
         ≡ session_column_does session.old cells.old journal.old x z height id }
 {
-    Reply::from(session_edit::fill_column(session, cells, journal, x, z, height, id))
+    let b = session_by_value::fill_column(*session, cells, journal, x, z, height, id);
+    *session = b.session;
+    b.reply
 }
 
 #[unsafe(no_mangle)]
@@ -49,7 +53,9 @@ pub extern "C" fn pl_session_set_blocks(
     ensures { outcome session.new result cells.new journal.new
         ≡ session_batch_does session.old cells.old journal.old edits.now }
 {
-    Reply::from(session_batch::set_blocks(session, cells, journal, edits))
+    let b = session_by_value::set_blocks(*session, cells, journal, edits);
+    *session = b.session;
+    b.reply
 }
 
 #[unsafe(no_mangle)]
@@ -61,7 +67,9 @@ pub extern "C" fn pl_session_undo(
     ensures { outcome session.new result cells.new journal.new
         ≡ session_undo_does session.old cells.old journal.old }
 {
-    Reply::from(session_undo::undo(session, cells, journal))
+    let b = session_by_value::undo(*session, cells, journal);
+    *session = b.session;
+    b.reply
 }
 
 #[unsafe(no_mangle)]
@@ -73,7 +81,9 @@ pub extern "C" fn pl_session_checkpoint(
     ensures { recorded session.new result journal.new
         ≡ session_checkpoint_does session.old journal.old name.now }
 {
-    Reply::from(session_checkpoint::checkpoint(session, journal, name))
+    let b = session_by_value::checkpoint(*session, journal, name);
+    *session = b.session;
+    b.reply
 }
 
 #[unsafe(no_mangle)]
@@ -86,5 +96,7 @@ pub extern "C" fn pl_session_restore(
     ensures { outcome session.new result cells.new journal.new
         ≡ session_restore_does session.old cells.old journal.old name.now }
 {
-    Reply::from(session_restore::restore(session, cells, journal, name))
+    let b = session_by_value::restore(*session, cells, journal, name);
+    *session = b.session;
+    b.reply
 }
