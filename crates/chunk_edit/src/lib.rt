@@ -2,7 +2,7 @@
 // a call does not take are refused with the cause's number (SCOPE 10.2, 10.3), and the cells are then as they were.
 #![tactic(auto)]
 
-ghost use Rattle.std.specs.Prelude.{◌≡◌};
+ghost use Rattle.std.specs.Prelude.{◌≡◌, length};
 ghost use Rattle.config.specs.Answers.{cells_outcome};
 ghost use Rattle.config.specs.Numbers.{refusal_in};
 ghost use Rattle.chunk.specs.Replies.{says_counted};
@@ -22,13 +22,23 @@ fn refuse_replace(size: usize, n: usize, m: usize) -> Result<(), Refusal>
     Ok(())
 }
 
+// Copies the blocks over the cells. Cell by cell: `copy_from_slice` of u16 would have the archive for C ask for memmove.
+fn copy(cells: &mut [u16], blocks: &[u16])
+    requires { length cells.old ≡ length blocks.now }
+    ensures { cells.new ≡ blocks.now }
+{
+    for i in 0..blocks.len() {
+        cells[i] = blocks[i];
+    }
+}
+
 // Replaces all cells, and counts them anew.
 #[tactic(auto, using(config::specs::Answers::is_refused_by), unfolding(crate::specs::Calls::chunk_replace_does))]
 pub fn replace_blocks(cells: &mut [u16], size: usize, blocks: &[u16]) -> Result<u32, Refusal>
     ensures { cells_outcome (says_counted result) cells.new ≡ chunk_replace_does size cells.old blocks.now }
 {
     refuse_replace(size, cells.len(), blocks.len())?;
-    cells.copy_from_slice(blocks);
+    copy(cells, blocks);
     Ok(grid::count_non_air(blocks) as u32)
 }
 

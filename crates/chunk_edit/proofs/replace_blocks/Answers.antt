@@ -5,8 +5,8 @@ use Rattle.chunk.specs.Tests.{chunk_most}
 use Rattle.chunk_edit.specs.Calls.{replace_passed}
 use Rattle.chunk_edit.proofs.replace_blocks.Goals as goal
 
-pub copy_from_slice-requires : goal.copy_from_slice-requires
-copy_from_slice-requires c = let h = replace_passed _ _ _ (sym c.in_ok-refuse_replace.ensures) in h.chunk.all ∙ sym h.new
+pub copy-requires : goal.copy-requires
+copy-requires c = let h = replace_passed _ _ _ (sym c.in_ok-refuse_replace.ensures) in h.chunk.all ∙ sym h.new
 
 pub overflow_cast-result : goal.overflow_cast-result
 overflow_cast-result c =
