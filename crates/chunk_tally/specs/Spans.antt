@@ -8,6 +8,7 @@ use Rattle.std.proofs.Math.ListN.{get_or-append}
 use Rattle.std.proofs.lemmas.List.Edits.{sets}
 use Rattle.std.proofs.Math.Seq.{length-sets}
 use Rattle.basics.specs.Bools.{pick}
+use Rattle.basics.specs.Lists.{nil}
 use Rattle.chunk_tally.specs.Ids.{list_if, span, id_count, id_table, table_at, window_ids, window_counts, seen_ids, seen_counts, present_ids, present_counts}
 
 -- the ids below m that are listed, and f of each
@@ -262,6 +263,20 @@ pub wrote_window : (w : ℕ) (c t : List ℕ) {ids counts ids' counts' ids'' cou
     → Wrote at ids' counts' (window_ids (w * 8192) t) (window_counts (w * 8192) t) ids'' counts'' next
     → Wrote 0 ids counts (ids_to ((w + 1) * 8192) (id_count c)) (counts_to ((w + 1) * 8192) (id_count c)) ids'' counts'' next
 wrote_window w c t e l m = wrote_as (ids_window w c t e) (counts_window w c t e) (wrote_more l m)
+
+-- once as many ids are written as the cells have, window w has none: nothing is left to write
+pub wrote_by_then : (w : ℕ) (c : List ℕ) {ids counts ids' counts' : List ℕ} {at : ℕ} → w + 1 ≤ 8 → length (present_ids c) ≤ at
+    → Wrote 0 ids counts (ids_to (w * 8192) (id_count c)) (counts_to (w * 8192) (id_count c)) ids' counts' at
+    → Wrote 0 ids counts (ids_to ((w + 1) * 8192) (id_count c)) (counts_to ((w + 1) * 8192) (id_count c)) ids' counts' at
+wrote_by_then w c {at = at} h k l =
+    let f = id_count c in
+    let t = id_table (w * 8192) c in
+    let b = l.behind in
+    let e = window_length w c t refl in
+    let m = prefix_most (w + 1) c h in
+    let none : window_ids (w * 8192) t ≡ [] = nil _ (omega arith) in
+    let same = sym (append-nil (ids_to (w * 8192) f)) ∙ ap (λ (r : List ℕ). ids_to (w * 8192) f ++ r) (sym none) ∙ ids_window w c t refl in
+    wrote_as same (ap (map f) same) l
 
 -- all windows
 pub ids_all : (w : ℕ) (c : List ℕ) → w * 8192 ≡ 65536 → ids_to (w * 8192) (id_count c) ≡ present_ids c

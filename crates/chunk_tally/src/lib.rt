@@ -74,7 +74,10 @@ fn note(ids: &mut [u16], counts: &mut [u32], at: usize, id: usize, n: u32) -> us
     requires { (id < 65536) × (at + length (list_if id n id) ≤ length ids.old) × (at + length (list_if id n id) ≤ length counts.old) }
     ensures { Wrote at ids.old counts.old (list_if id n id) (list_if id n n) ids.new counts.new result }
 {
-    if !is_listed(id, n) {
+    if id == 0 {
+        return at;
+    }
+    if n == 0 {
         return at;
     }
     ids[at] = id as u16;
@@ -105,10 +108,12 @@ fn write_window(
     at
 }
 
-// Writes the ids that the cells have, upward, each with its number of cells.
-fn list_ids(cells: &[u16], ids: &mut [u16], counts: &mut [u32], table: &mut [u32])
+// Writes the n ids that the cells have, upward, each with its number of cells. To count a window takes a walk over all
+// cells, so none is counted once the last id is written: the windows that are left have no id to list.
+fn list_ids(cells: &[u16], n: usize, ids: &mut [u16], counts: &mut [u32], table: &mut [u32])
     requires { (length table.old ≡ 8192)
         × (length cells.now ≤ 262144)
+        × (n ≡ length (present_ids cells.now))
         × (length (present_ids cells.now) ≤ length ids.old)
         × (length (present_ids cells.now) ≤ length counts.old) }
     ensures { (ids.new ≡ sets ids.old 0 (present_ids cells.now))
@@ -116,8 +121,10 @@ fn list_ids(cells: &[u16], ids: &mut [u16], counts: &mut [u32], table: &mut [u32
 {
     let mut at = 0;
     for w in 0..WINDOWS {
-        count_window(cells, w * WINDOW, table);
-        at = write_window(table, w * WINDOW, ids, counts, at);
+        if at < n {
+            count_window(cells, w * WINDOW, table);
+            at = write_window(table, w * WINDOW, ids, counts, at);
+        }
     }
 }
 
@@ -139,7 +146,7 @@ fn tally_in(
     if ids.len() < n || counts.len() < n {
         return Err(Refusal::TallyLists);
     }
-    list_ids(cells, ids, counts, table);
+    list_ids(cells, n, ids, counts, table);
     Ok(n)
 }
 

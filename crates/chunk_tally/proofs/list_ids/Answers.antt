@@ -1,6 +1,7 @@
 use Rattle.std.proofs.Common.{◌≡◌, ◌+◌, ◌*◌, sym, ap, arith, map}
 use Rattle.chunk_tally.specs.Ids.{id_count}
-use Rattle.chunk_tally.specs.Spans.{wrote_none, wrote_as, wrote_window, ids_long, counts_long, span_none, window_length, prefix_most, ids_all, counts_all}
+use Rattle.chunk_tally.specs.Spans.{wrote_none, wrote_as, wrote_window, wrote_by_then, ids_long, counts_long, span_none, window_length, prefix_most, ids_all, counts_all}
+use Rattle.chunk_tally.proofs.list_ids.Goals.{then-at-n, else-at-n}
 use Rattle.chunk_tally.proofs.list_ids.Goals as goal
 
 pub loop-w-init : goal.loop-w-init
@@ -19,7 +20,15 @@ write_window-at-requires c =
     (omega arith, omega arith, omega arith, omega arith)
 
 pub loop-w-preserved : goal.loop-w-preserved
-loop-w-preserved c = wrote_window c.loop-w.w c.args.cells.now _ c.count_window.ensures c.loop-w.invariant c.write_window-at.ensures
+loop-w-preserved c =
+    let cs = c.args.cells.now in
+    let l = c.loop-w in
+    elim c.if-at-n.branch [
+      | then-at-n w ↦
+          rw (w.ids-is, w.counts-is, w.at-is) (wrote_window l.w cs _ w.count_window.ensures l.invariant w.write_window-at.ensures)
+      | else-at-n w ↦
+          rw (w.ids-is, w.counts-is, w.at-is) (wrote_by_then l.w cs (omega arith) (omega arith) l.invariant)
+    ]
 
 pub returns : goal.returns
 returns c =

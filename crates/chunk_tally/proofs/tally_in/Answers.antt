@@ -25,7 +25,7 @@ pub list_ids-requires : goal.list_ids-requires
 list_ids-requires c =
     let m = chunk_most _ _ (chunk_passed _ _ (sym c.in_ok-refuse_chunk.ensures)) in
     let n = c.count_ids-n.ensures in
-    (omega arith, omega arith, omega arith, omega arith)
+    (omega arith, omega arith, omega arith, omega arith, omega arith)
 
 pub returns : goal.returns
 returns c =
