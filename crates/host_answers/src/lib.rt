@@ -7,7 +7,8 @@ ghost use Rattle.config.specs.Answers.{says};
 ghost use Rattle.chunk.specs.Replies.{one_number, yes};
 ghost use Rattle.chunk_batch.specs.Replies.{says_written};
 ghost use Rattle.chunk_border.specs.Border.{says_extracted};
-ghost use Rattle.host_answers.specs.Answers.{first_of, answer_of, batch_answer_of, border_answered, border_in_c_does};
+ghost use Rattle.host_answers.specs.Answers.{answer, first_of, answer_of, batch_answer, batch_answer_of};
+ghost use Rattle.host_answers.specs.Answers.{border_answered, border_in_c_does};
 
 use chunk_batch::Batched;
 use chunk_border::Face;
@@ -85,7 +86,29 @@ impl Tells for () {
     }
 }
 
-// A refusal has line 0, and no value.
+// A refusal of any number: its line is 0, and it has no value.
+pub fn refused(number: u32) -> Answer
+    ensures { result ≡ answer number 0 0 }
+{
+    Answer {
+        number,
+        line: 0,
+        value: 0,
+    }
+}
+
+// The same of a batch.
+pub fn refused_batch(number: u32) -> BatchAnswer
+    ensures { result ≡ batch_answer number 0 0 0 }
+{
+    BatchAnswer {
+        number,
+        line: 0,
+        written: 0,
+        count: 0,
+    }
+}
+
 impl<T: Tells> From<Result<T, Refusal>> for Answer {
     ghost from_gives = { λ told answer. answer ≡ answer_of (says T.values told) };
 
@@ -96,11 +119,7 @@ impl<T: Tells> From<Result<T, Refusal>> for Answer {
                 line: 0,
                 value: value.value(),
             },
-            Err(refusal) => Answer {
-                number: refusal.number(),
-                line: 0,
-                value: 0,
-            },
+            Err(refusal) => refused(refusal.number()),
         }
     }
 }
@@ -116,12 +135,7 @@ impl From<Result<Batched, Refusal>> for BatchAnswer {
                 written: batched.written,
                 count: batched.count,
             },
-            Err(refusal) => BatchAnswer {
-                number: refusal.number(),
-                line: 0,
-                written: 0,
-                count: 0,
-            },
+            Err(refusal) => refused_batch(refusal.number()),
         }
     }
 }
