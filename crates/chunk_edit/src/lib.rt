@@ -22,7 +22,7 @@ fn refuse_replace(size: usize, n: usize, m: usize) -> Result<(), Refusal>
     Ok(())
 }
 
-// Copies the blocks over the cells. Cell by cell: `copy_from_slice` of u16 would have the archive for C ask for memmove.
+// Copies the blocks over the cells. Cell by cell: `copy_from_slice` between two lent slices would have the archive for C ask for memmove.
 fn copy(cells: &mut [u16], blocks: &[u16])
     requires { length cells.old ≡ length blocks.now }
     ensures { cells.new ≡ blocks.now }

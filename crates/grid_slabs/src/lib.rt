@@ -22,7 +22,7 @@ pub fn in_rows(lo: usize, hi: usize, z: usize) -> bool
     (lo <= z) & (z < hi)
 }
 
-// Keeps the n cells from start on. Cell by cell: `copy_from_slice` of u16 would have the archive for C ask for memmove.
+// Keeps the n cells from start on. Cell by cell: `copy_from_slice` between two lent slices asks for memmove.
 pub fn copy_slab(cells: &[u16], start: usize, n: usize, old: &mut [u16])
     requires { (start + n ≤ length cells.now) × (n ≤ length old.old) }
     ensures { take n old.new ≡ take n (drop start cells.now) }
